@@ -1,0 +1,3 @@
+pub mod RectLemmas
+pub mod BufferLemmas
+pub mod CellLemmas

@@ -1,0 +1,44 @@
+// Widgets.
+ghost use Rattle.std.specs.Prelude.{◌≡◌, ℕ, false, OnErr};
+ghost use Rattle.term_core.specs.Buffers.{BufferView, cell_at};
+ghost use Rattle.term_core.specs.Rect.{has_place};
+
+use crate::buffer::Buffer;
+use crate::rect::Rect;
+use std::alloc::{AllocError, Global};
+use std::fmt;
+
+#[derive(Clone, Copy, Debug, PartialEq, Eq)]
+pub enum WidgetError {
+    Memory,
+    TooNarrow,
+}
+
+impl From<AllocError> for WidgetError {
+    ghost use Rattle.term_core.specs.declared.widget.WidgetError.{WidgetError};
+
+    ghost from_gives = { λ _ e. e ≡ WidgetError.Memory };
+
+    fn from(_: AllocError) -> WidgetError {
+        WidgetError::Memory
+    }
+}
+
+impl fmt::Display for WidgetError {
+    fn fmt<W: fmt::Write>(&self, f: &mut fmt::Formatter<W>) -> fmt::Result {
+        match self {
+            WidgetError::Memory => f.write_str("out of memory"),
+            WidgetError::TooNarrow => f.write_str("a character is wider than the page"),
+        }
+    }
+}
+
+impl std::error::Error for WidgetError {}
+
+/// What can be drawn into an area of a buffer.
+pub trait Widget {
+    fn render(self, alloc: Global, area: Rect, buf: &mut Buffer) -> Result<(), WidgetError>
+        ensures area { buf.new.area ≡ buf.old.area }
+        ensures outside { (x y : ℕ) → has_place area x y ≡ false → cell_at buf.new x y ≡ cell_at buf.old x y }
+        ensures err { OnErr result (buf.new ≡ buf.old) };
+}

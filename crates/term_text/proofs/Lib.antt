@@ -1,0 +1,6 @@
+pub mod GraphLemmas
+pub mod WrapLemmas
+pub mod LineLemmas
+pub mod CutLemmas
+pub mod RowLemmas
+pub mod TextLemmas

@@ -1,0 +1,10 @@
+use Rattle.std.proofs.Common.{◌≡◌, ◌≤◌, ◌+◌, length}
+use Rattle.term_text.specs.LineIter.{line_left}
+use Rattle.term_text.specs.Cut.{cut_from}
+use Rattle.term_text.proofs.cutter.cut_at.Given as goal
+
+abbrev pub invariant-row : goal.invariant-row
+invariant-row l = (l.count + l.room ≤ l.width) × (cut_from l.room l.count l.mark (line_left l.ahead) ≡ cut_from l.width 0 0 (line_left l.graphs))
+
+abbrev pub decreases-row : goal.decreases-row
+decreases-row l = length (line_left l.ahead)

@@ -1,0 +1,23 @@
+-- What the iterators of graphemes have left.
+use Rattle.std.specs.Prelude.{ℕ, List, [], ◌∷◌, ◌++◌, Option, Some, None}
+use Rattle.std.specs.Borrow.{Bor}
+use Rattle.unicode_segmentation.specs.Iter.{graphemes_left}
+use Rattle.term_text.specs.declared.graphs.Graph.{Graph}
+use Rattle.term_text.specs.declared.graphs.Graphemes.{Graphemes}
+use Rattle.term_text.specs.Graph.{Grapheme, visible}
+
+-- what a clause reads of a `Graph`
+abbrev pub grapheme : Graph → Grapheme
+grapheme g = record { symbol = g.symbol.now; style = g.style; width = g.width; blank = g.blank }
+
+abbrev pub glyph_pieces : Option (Bor (List ℕ)) → List (List ℕ)
+glyph_pieces None = []
+glyph_pieces (Some text) = text.now ∷ []
+
+-- the pieces that are still to come
+unfoldable pub pieces_left : Graphemes → List (List ℕ)
+pieces_left s = glyph_pieces s.glyph ++ graphemes_left s.pieces
+
+-- the visible graphemes that are still to come
+unfoldable pub graphs_left : Graphemes → List Grapheme
+graphs_left s = visible s.style (pieces_left s)

@@ -1,0 +1,12 @@
+pub mod Lists
+pub mod Style
+pub mod CowStr
+pub mod Text
+pub mod Graph
+pub mod Iter
+pub mod Wrap
+pub mod LineIter
+pub mod Counted
+pub mod Cut
+pub mod Rows
+pub mod Stack

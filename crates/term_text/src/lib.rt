@@ -1,0 +1,23 @@
+//! Styles, texts, graphemes and the rows that a line is cut into.
+#![tactic(auto)]
+
+mod alignment;
+mod cow_str;
+mod cutter;
+mod graphs;
+pub mod laws;
+mod line_graphs;
+mod stack;
+mod steps;
+mod style;
+mod text;
+
+pub use alignment::Alignment;
+pub use cow_str::CowStr;
+pub use cutter::{Cutter, Row, RowGraphemes};
+pub use graphs::{Graph, Graphemes};
+pub use line_graphs::LineGraphemes;
+pub use stack::Stack;
+pub use steps::{Counted, Ledger, NoSteps, Steps};
+pub use style::{Color, Modifier, Style};
+pub use text::{Line, Span, Text};

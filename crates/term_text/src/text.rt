@@ -1,0 +1,193 @@
+// Spans, lines and texts.
+ghost use Rattle.std.specs.Prelude.{ℕ, ◌≡◌, ◌==◌, ◌+◌, ◌^◌, ◌<◌, List, [], ◌∷◌, ◌++◌, length, true, false, IfOk, OnOk, OnErr, if◌then◌else◌};
+ghost use Rattle.term_text.specs.Text.{SpanView, LineView, raw_spans};
+ghost use Rattle.std.specs.Str.Lines.{lines};
+ghost use Rattle.term_text.specs.Style.{no_style};
+
+use crate::cow_str::CowStr;
+use crate::style::Style;
+use std::alloc::{AllocError, Global};
+use std::marker::Model;
+
+/// A text in one style.
+#[derive(Drop)]
+pub struct Span<'a> {
+    text: CowStr<'a>,
+    style: Style,
+    is_glyph: bool,
+}
+
+impl<'a> Model for Span<'a> {
+    ghost use Rattle.term_text.specs.Text.{SpanView};
+
+    ghost Value = { SpanView };
+
+    ghost view = { λ s. record { text = s.text; style = s.style; is_glyph = s.is_glyph } };
+}
+
+impl<'a> Span<'a> {
+    pub fn raw(text: CowStr<'a>) -> Span<'a>
+        ensures { result ≡ record { text = text.entry; style = no_style; is_glyph = false } }
+    {
+        Span {
+            text,
+            style: Style::new(),
+            is_glyph: false,
+        }
+    }
+
+    pub fn styled(text: CowStr<'a>, style: Style) -> Span<'a>
+        ensures { result ≡ record { text = text.entry; style = style; is_glyph = false } }
+    {
+        Span {
+            text,
+            style,
+            is_glyph: false,
+        }
+    }
+
+    pub fn glyph(text: CowStr<'a>, style: Style) -> Span<'a>
+        ensures { result ≡ record { text = text.entry; style = style; is_glyph = true } }
+    {
+        Span {
+            text,
+            style,
+            is_glyph: true,
+        }
+    }
+
+    pub fn with_style(self, style: Style) -> Span<'a>
+        ensures { result ≡ record self.entry { style = style } }
+    {
+        let Span { text, is_glyph, .. } = self;
+        Span {
+            text,
+            style,
+            is_glyph,
+        }
+    }
+
+    pub fn text(&self) -> &str
+        ensures { result.now ≡ self.now.text }
+    {
+        self.text.as_str()
+    }
+
+    pub fn style(&self) -> Style
+        ensures { result ≡ self.now.style }
+    {
+        self.style
+    }
+
+    pub fn is_glyph(&self) -> bool
+        ensures { result ≡ self.now.is_glyph }
+    {
+        self.is_glyph
+    }
+}
+
+/// Spans over one style.
+#[derive(Drop)]
+pub struct Line<'a> {
+    spans: Vec<Span<'a>>,
+    style: Style,
+}
+
+impl<'a> Model for Line<'a> {
+    ghost use Rattle.term_text.specs.Text.{LineView};
+
+    ghost Value = { LineView };
+
+    ghost view = { λ s. record { spans = s.spans.items; style = s.style } };
+}
+
+impl<'a> Line<'a> {
+    pub fn new(alloc: Global) -> Line<'a>
+        ensures { result ≡ record { spans = []; style = no_style } }
+    {
+        Line {
+            spans: Vec::new(alloc),
+            style: Style::new(),
+        }
+    }
+
+    /// A raw span for each line of the text that has a byte.
+    pub fn from_text(alloc: Global, text: &'a str) -> Result<Line<'a>, AllocError>
+        ensures { IfOk result (λ line. line ≡ record { spans = raw_spans (lines text.now); style = no_style }) }
+    {
+        let mut line = Line::new(alloc);
+        for piece in text.lines() {
+            line.push_span(Span::raw(CowStr::borrowed(piece)))?;
+        }
+        Ok(line)
+    }
+
+    pub fn push_span(&mut self, span: Span<'a>) -> Result<(), AllocError>
+        ensures ok { OnOk result (self.new
+            ≡ record self.old { spans = if length span.entry.text == 0 then self.old.spans else self.old.spans ++ span.entry ∷ [] }) }
+        ensures err { OnErr result (self.new ≡ self.old) }
+    {
+        if span.text().is_empty() {
+            return Ok(());
+        }
+        self.spans.push(span)?;
+        Ok(())
+    }
+
+    pub fn set_style(&mut self, style: Style)
+        ensures { self.new ≡ record self.old { style = style } }
+    {
+        self.style = style;
+    }
+
+    pub fn style(&self) -> Style
+        ensures { result ≡ self.now.style }
+    {
+        self.style
+    }
+
+    pub fn spans(&self) -> &[Span<'a>]
+        ensures { result.now ≡ self.now.spans }
+    {
+        self.spans.as_slice()
+    }
+}
+
+/// Lines.
+#[derive(Drop)]
+pub struct Text<'a> {
+    lines: Vec<Line<'a>>,
+}
+
+impl<'a> Model for Text<'a> {
+    ghost use Rattle.std.specs.Prelude.{List};
+    ghost use Rattle.term_text.specs.Text.{LineView};
+
+    ghost Value = { List LineView };
+
+    ghost view = { λ s. s.lines.items };
+}
+
+impl<'a> Text<'a> {
+    pub fn new(alloc: Global) -> Text<'a>
+        ensures { result ≡ [] }
+    {
+        Text {
+            lines: Vec::new(alloc),
+        }
+    }
+
+    pub fn push_line(&mut self, line: Line<'a>) -> Result<(), AllocError>
+        ensures ok { OnOk result (self.new ≡ self.old ++ line.entry ∷ []) }
+        ensures err { OnErr result (self.new ≡ self.old) }
+    {
+        self.lines.push(line)?;
+        Ok(())
+    }
+
+    pub fn lines(&self) -> &[Line<'a>]
+        ensures { result.now ≡ self.now }
+    {
+        self.lines.as_slice()
+    }
+}
