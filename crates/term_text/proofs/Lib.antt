@@ -4,3 +4,4 @@ pub mod LineLemmas
 pub mod CutLemmas
 pub mod RowLemmas
 pub mod TextLemmas
+pub mod EndLemmas

@@ -1,4 +1,5 @@
 pub mod Lists
+pub mod LineEnds
 pub mod Style
 pub mod CowStr
 pub mod Text
