@@ -5,3 +5,6 @@ pub mod CutLemmas
 pub mod RowLemmas
 pub mod TextLemmas
 pub mod EndLemmas
+pub mod PlainTables
+pub mod PlainWidths
+pub mod PlainLemmas

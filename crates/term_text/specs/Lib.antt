@@ -4,6 +4,7 @@ pub mod Style
 pub mod CowStr
 pub mod Text
 pub mod Graph
+pub mod Plain
 pub mod Iter
 pub mod Wrap
 pub mod LineIter
