@@ -4,3 +4,7 @@ pub mod LineLemmas
 pub mod CutLemmas
 pub mod RowLemmas
 pub mod TextLemmas
+pub mod EndLemmas
+pub mod PlainTables
+pub mod PlainWidths
+pub mod PlainLemmas

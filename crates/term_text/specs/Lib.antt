@@ -1,8 +1,10 @@
 pub mod Lists
+pub mod LineEnds
 pub mod Style
 pub mod CowStr
 pub mod Text
 pub mod Graph
+pub mod Plain
 pub mod Iter
 pub mod Wrap
 pub mod LineIter
