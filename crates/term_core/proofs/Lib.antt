@@ -1,3 +1,4 @@
 pub mod RectLemmas
 pub mod BufferLemmas
 pub mod CellLemmas
+pub mod StyleLemmas

@@ -1,3 +1,17 @@
+pub use Rattle.term_text.specs.Lists
+pub use Rattle.term_text.specs.Style
+pub use Rattle.term_text.specs.CowStr
+pub use Rattle.term_text.specs.Text
+pub use Rattle.term_text.specs.Graph
+pub use Rattle.term_text.specs.Iter
+pub use Rattle.term_text.specs.LineIter
+pub use Rattle.term_text.specs.Wrap
+pub use Rattle.term_text.specs.Cut
+pub use Rattle.term_text.specs.Rows
+pub use Rattle.term_text.specs.Counted
+pub use Rattle.term_text.specs.Stack
 pub mod Rect
 pub mod Cells
 pub mod Buffers
+pub mod Visited
+pub mod WidgetError
