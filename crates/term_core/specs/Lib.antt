@@ -14,4 +14,5 @@ pub mod Rect
 pub mod Cells
 pub mod Buffers
 pub mod Visited
+pub mod VisitedIter
 pub mod WidgetError

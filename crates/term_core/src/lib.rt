@@ -9,6 +9,7 @@ mod cell;
 mod rect;
 #[cfg(test)]
 mod tests;
+mod visited;
 mod widget;
 
 pub use buffer::Buffer;
@@ -18,4 +19,5 @@ pub use term_text::{
     Alignment, Color, Counted, CowStr, Cutter, Graph, Graphemes, Ledger, Line, LineGraphemes,
     Modifier, NoSteps, Row, RowGraphemes, Span, Stack, Steps, Style, Text, laws,
 };
+pub use visited::VisitedCells;
 pub use widget::{Widget, WidgetError};
