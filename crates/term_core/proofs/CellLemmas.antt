@@ -18,4 +18,3 @@ length-row_cells (g ∷ gs) h =
 pub length-cells : (gs : List Grapheme) (w : ℕ) → AllShown gs → columns gs ≤ w → length (cells gs w) ≡ w
 length-cells gs w shown fits =
     omega (arith, length-append (row_cells gs) (replicate (w - length (row_cells gs)) blank_cell), length-replicate (w - length (row_cells gs)) blank_cell, length-row_cells gs shown)
-

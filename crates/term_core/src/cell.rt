@@ -1,14 +1,16 @@
-// Cells.
+// Cells of a terminal.
 ghost use Rattle.std.specs.Prelude.{◌≡◌, ◌≤◌, [], length, IsOk, IfOk, encode_utf8};
 ghost use Rattle.term_core.specs.Cells.{CellView, blank_cell, with_style};
 
-use term_text::{Color, Modifier, Style};
 use bitflags::Flags;
 use smallvec::SmallVec;
 use std::alloc::{AllocError, Global};
 use std::marker::Model;
+use term_text::{Color, Modifier, Style};
 
-/// A symbol with its colours and modifiers.
+/// One cell of a terminal: a symbol with its colours and modifiers.
+///
+/// A symbol of at most 8 bytes stands in the cell itself and takes no memory.
 #[derive(Drop)]
 pub struct Cell {
     symbol: SmallVec<u8, 8>,
@@ -29,6 +31,7 @@ impl Model for Cell {
 }
 
 impl Cell {
+    /// A space with both colours `Reset` and no modifier. Takes no memory.
     pub fn blank(alloc: Global) -> Cell
         ensures { result ≡ blank_cell }
     {
@@ -38,6 +41,9 @@ impl Cell {
         cell
     }
 
+    /// The symbol with both colours `Reset` and no modifier.
+    ///
+    /// A symbol of at most 8 bytes takes no memory and is never refused.
     pub fn new(alloc: Global, symbol: &str) -> Result<Cell, AllocError>
         ensures ok { IfOk result (λ c. c ≡ record blank_cell { symbol = symbol.now }) }
         ensures succeeds { length symbol.now ≤ 8 → IsOk result }
@@ -53,6 +59,7 @@ impl Cell {
         }
     }
 
+    /// The same cell again. A symbol of at most 8 bytes takes no memory and is never refused.
     pub fn try_clone(&self) -> Result<Cell, AllocError>
         ensures ok { IfOk result (λ c. c ≡ self.now) }
         ensures succeeds { length self.now.symbol ≤ 8 → IsOk result }
@@ -68,6 +75,7 @@ impl Cell {
         }
     }
 
+    /// The text that stands in the cell.
     pub fn symbol(&self) -> &str
         ensures { result.now ≡ self.now.symbol }
     {
@@ -75,24 +83,28 @@ impl Cell {
         unsafe { std::str::from_utf8_unchecked(bytes) }
     }
 
+    /// The foreground colour.
     pub fn fg(&self) -> Color
         ensures { result ≡ self.now.fg }
     {
         self.fg
     }
 
+    /// The background colour.
     pub fn bg(&self) -> Color
         ensures { result ≡ self.now.bg }
     {
         self.bg
     }
 
+    /// The modifiers.
     pub fn modifier(&self) -> Modifier
         ensures { result ≡ self.now.modifier }
     {
         self.modifier
     }
 
+    /// Makes the character the symbol. Takes no memory.
     pub fn set_char(&mut self, c: char)
         ensures { self.new ≡ record self.old { symbol = encode_utf8 c } }
     {
@@ -104,18 +116,21 @@ impl Cell {
         self.symbol = symbol;
     }
 
+    /// Sets the foreground colour.
     pub fn set_fg(&mut self, color: Color)
         ensures { self.new ≡ record self.old { fg = color } }
     {
         self.fg = color;
     }
 
+    /// Sets the background colour.
     pub fn set_bg(&mut self, color: Color)
         ensures { self.new ≡ record self.old { bg = color } }
     {
         self.bg = color;
     }
 
+    /// Sets the colours that the style sets, then adds its `add` and removes its `sub`.
     pub fn set_style(&mut self, style: Style)
         ensures { self.new ≡ with_style self.old style }
     {

@@ -1,13 +1,23 @@
 //! Styles, texts, graphemes, rectangles, cells and buffers of a terminal.
+//!
+//! A text is cut into graphemes and rows by `term_text`, whose items stand here too.
+//! A buffer keeps the cells of an area. Its contracts tell the cell at each place.
 #![tactic(auto)]
 
 mod buffer;
 mod cell;
 mod rect;
+#[cfg(test)]
+mod tests;
+mod visited;
 mod widget;
 
 pub use buffer::Buffer;
 pub use cell::Cell;
 pub use rect::Rect;
-pub use term_text::{Alignment, Color, Counted, CowStr, Cutter, Graph, Graphemes, Ledger, Line, LineGraphemes, Modifier, NoSteps, Row, RowGraphemes, Span, Stack, Steps, Style, Text, laws};
+pub use term_text::{
+    Alignment, Color, Counted, CowStr, Cutter, Graph, Graphemes, Ledger, Line, LineGraphemes,
+    Modifier, NoSteps, Row, RowGraphemes, Span, Stack, Steps, Style, Text, laws,
+};
+pub use visited::VisitedCells;
 pub use widget::{Widget, WidgetError};
