@@ -1,0 +1,14 @@
+use Rattle.std.proofs.Common.{arith, ◌≡◌, ◌++◌, length, [], ap, ◌∙◌, sym, append-nil}
+use Rattle.std.proofs.lemmas.Bool.Decides.{nat_tests}
+use Rattle.md_lines.specs.Lines.{lines_of}
+use Rattle.md_lines.proofs.LineLemmas.{lines_of-empty, is_one_line-first}
+use Rattle.md_lines.proofs.line.lines_of.Goals as goal
+
+pub line_of-requires : goal.line_of-requires
+line_of-requires c = is_one_line-first _ _ _ c.next_line.ensures.lines
+
+pub returns : goal.returns
+returns c =
+    let none : length c.loop-rest.rest.now ≡ 0 = grind (arith, nat_tests, c.is_empty.ensures, c.loop-rest-test.false) in
+    let left : lines_of c.loop-rest.rest.now ≡ [] = lines_of-empty _ none in
+    sym (append-nil _) ∙ (ap (λ x. c.loop-rest.lines.items ++ x) (sym left) ∙ c.loop-rest.invariant.1)
