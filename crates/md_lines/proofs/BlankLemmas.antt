@@ -1,5 +1,5 @@
 -- What is left without the blanks at the end.
-use Rattle.std.proofs.Common.{List, [], ◌∷◌, ◌++◌, length, take, drop, get_or, ◌≡◌, ◌≤◌, ◌<◌, ◌+◌, ◌-◌, ℕ, refl, sym, ap, ◌∙◌, arith, true, false, Bool, ◌&&◌}
+use Rattle.std.proofs.Common.{cond, List, [], ◌∷◌, ◌++◌, length, take, drop, get_or, ◌≡◌, ◌≤◌, ◌<◌, ◌+◌, ◌-◌, ℕ, refl, sym, ap, ◌∙◌, arith, true, false, Bool, ◌&&◌}
 use Rattle.std.specs.List.{list_all}
 use Rattle.std.proofs.lemmas.List.{take_more, take_all}
 use Rattle.std.proofs.lemmas.List.Folds.{list_all-append}
@@ -11,6 +11,35 @@ use Rattle.md_lines.specs.Blanks.{is_blank, without_end_blanks}
 -- the blanks at the end of the bytes
 abbrev pub end_blanks : List ℕ → List ℕ
 end_blanks bs = drop (length (without_end_blanks bs)) bs
+
+-- they follow what is left
+pub without_end_blanks-end_blanks : (bs : List ℕ) → without_end_blanks bs ++ end_blanks bs ≡ bs
+unfolding without_end_blanks
+without_end_blanks-end_blanks [] = refl
+without_end_blanks-end_blanks (b ∷ bs) =
+    elim (list_all is_blank (b ∷ bs)) as (λ v. cond v [] (b ∷ without_end_blanks bs) ++ drop (length (cond v [] (b ∷ without_end_blanks bs))) (b ∷ bs) ≡ b ∷ bs) [
+      | true ↦ refl
+      | false ↦ ap (λ x. b ∷ x) (without_end_blanks-end_blanks bs)
+    ]
+
+-- and are blanks
+pub end_blanks-all : (bs : List ℕ) → list_all is_blank (end_blanks bs) ≡ true
+unfolding without_end_blanks
+end_blanks-all [] = refl
+end_blanks-all (b ∷ bs) = go (list_all is_blank (b ∷ bs)) refl (end_blanks-all bs)
+  where
+    go : (v : Bool) → list_all is_blank (b ∷ bs) ≡ v → list_all is_blank (end_blanks bs) ≡ true → list_all is_blank (drop (length (cond v [] (b ∷ without_end_blanks bs))) (b ∷ bs)) ≡ true
+    go true e rest = e
+    go false e rest = rest
+
+pub without_end_blanks-all : (bs : List ℕ) → list_all is_blank bs ≡ true → without_end_blanks bs ≡ []
+unfolding without_end_blanks
+without_end_blanks-all [] all = refl
+without_end_blanks-all (b ∷ bs) all = ap (λ v. cond v [] (b ∷ without_end_blanks bs)) all
+
+pub without_end_blanks-some : (b : ℕ) (bs : List ℕ) → list_all is_blank (b ∷ bs) ≡ false → without_end_blanks (b ∷ bs) ≡ b ∷ without_end_blanks bs
+unfolding without_end_blanks
+without_end_blanks-some b bs some = ap (λ v. cond v [] (b ∷ without_end_blanks bs)) some
 
 -- a blank more at the end changes nothing
 pub without_end_blanks-blank : (xs : List ℕ) (b : ℕ) → is_blank b ≡ true → without_end_blanks (xs ++ b ∷ []) ≡ without_end_blanks xs

@@ -1,8 +1,9 @@
 -- How far a line is read, and what its lines are free of.
-use Rattle.std.proofs.Common.{List, [], ◌∷◌, length, drop, get_or, ◌≡◌, ◌≤◌, ◌<◌, ◌+◌, ◌*◌, ◌==◌, ℕ, zero, suc, refl, sym, ap, subst, ◌∙◌, arith, true, false, Bool, cond, not, ◌&&◌, add_assoc, zero-add}
+use Rattle.std.proofs.Common.{◌++◌, List, [], ◌∷◌, length, drop, get_or, ◌≡◌, ◌≤◌, ◌<◌, ◌+◌, ◌*◌, ◌==◌, ℕ, zero, suc, refl, sym, ap, subst, ◌∙◌, arith, true, false, Bool, cond, not, ◌&&◌, add_assoc, zero-add}
 use Rattle.std.specs.Str.{IsCharBoundary, IsUtf8}
 use Rattle.std.proofs.lemmas.Str.{IsCharBoundary-after_ascii, IsCharBoundary-start}
 use Rattle.std.proofs.lemmas.List.{drop_more}
+use Rattle.std.proofs.lemmas.List.Folds.{list_all-append}
 use Rattle.std.proofs.lemmas.Bool.{false≢true}
 use Rattle.term_text.specs.LineEnds.{raw_lines, ends_line, in_front, ended}
 use Rattle.md_lines.specs.Lines.{LineText, line_of, lines_of, deeper, is_one_line}
@@ -65,6 +66,15 @@ pub is_one_line-drop : (n : ℕ) (bs : List ℕ) → is_one_line bs ≡ true →
 is_one_line-drop zero bs h = h
 is_one_line-drop (suc n) [] h = refl
 is_one_line-drop (suc n) (b ∷ bs) h = is_one_line-drop n bs (right-true (not (ends_line b)) (is_one_line bs) h)
+
+left-true : (a b : Bool) → (a && b) ≡ true → a ≡ true
+left-true true b h = refl
+left-true false b h = absurd (false≢true h)
+
+-- the front of one line is on one line
+pub is_one_line-front : (xs ys : List ℕ) → is_one_line (xs ++ ys) ≡ true → is_one_line xs ≡ true
+is_one_line-front xs ys h =
+    left-true (is_one_line xs) (is_one_line ys) (sym (list_all-append (λ (b : ℕ). not (ends_line b)) xs ys) ∙ h)
 
 -- each line of a text is on one line
 abbrev AreOneLine : List (List ℕ) → Type 0

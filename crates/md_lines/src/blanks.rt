@@ -1,5 +1,5 @@
 // Spaces and tabs.
-ghost use Rattle.std.specs.Prelude.{◌≡◌};
+ghost use Rattle.std.specs.Prelude.{◌≡◌, ◌≤◌, length};
 ghost use Rattle.md_lines.specs.Blanks.{is_blank, without_end_blanks};
 
 /// Whether a byte is a space or a tab.
@@ -11,7 +11,8 @@ pub fn is_blank(b: u8) -> bool
 
 /// The text without the blanks at its end, which are looked for from there.
 pub fn without_end_blanks<'a>(text: &'a str) -> &'a str
-    ensures { result.now ≡ without_end_blanks text.now }
+    ensures value { result.now ≡ without_end_blanks text.now }
+    ensures within { length result.now ≤ length text.now }
 {
     let bytes = text.as_bytes();
     let mut end = bytes.len();

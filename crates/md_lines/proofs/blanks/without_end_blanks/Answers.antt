@@ -12,8 +12,8 @@ loop-end-preserved c = (
       c.loop-end.invariant.1,
 )
 
-pub returns : goal.returns
-returns c =
+pub returns-clause-value : goal.returns-clause-value
+returns-clause-value c =
     let whole : c.loop-end.end - 0 ≡ c.loop-end.end = omega arith in
     c.range.ensures.value ∙ (ap (λ n. take n c.args.text.now) whole ∙ elim c.loop-end-test.branch [
       | then-loop-end-test+else-is_blank w ↦

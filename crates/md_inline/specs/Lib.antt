@@ -1,0 +1,4 @@
+pub mod Source
+pub mod Leaves
+pub mod Inlines
+pub mod ByLine

@@ -1,0 +1,6 @@
+//! The inlines of a Markdown source.
+#![tactic(auto)]
+
+mod write;
+
+pub use write::write_inlines;
