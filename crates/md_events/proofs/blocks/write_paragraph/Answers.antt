@@ -1,0 +1,20 @@
+use Rattle.std.proofs.Common.{◌≡◌, ◌++◌, ◌+◌, ◌-◌, ◌∷◌, [], length, take, drop, ap, ◌∙◌, refl, List, ℕ, map}
+use Rattle.md_lines.specs.Lines.{LineText, body_of}
+use Rattle.md_tree.specs.declared.event.Event.TheVariants.{Start, End}
+use Rattle.md_tree.specs.declared.event.TagEnd.TheVariants as end
+use Rattle.md_tree.specs.Tree.{events}
+use Rattle.md_inline.specs.Inlines.{inlines}
+use Rattle.md_events.specs.Blocks.{paragraph_more}
+use Rattle.md_events.proofs.Steps.{paragraph-written, slice-rest}
+use Rattle.md_events.proofs.blocks.write_paragraph.Goals as goal
+
+pub returns-clause-written : goal.returns-clause-written
+returns-clause-written c =
+    let lines : List LineText = c.args.lines.now in
+    let count : ℕ = 1 + c.paragraph_more-count.result in
+    let counted : count ≡ 1 + paragraph_more (drop 1 lines) =
+      ap (λ x. 1 + x) (c.paragraph_more-count.ensures.value ∙ ap paragraph_more (slice-rest 1 lines)) in
+    paragraph-written lines (take count lines) _ _ count c.requires counted refl
+    (c.in_ok-push-2.ensures.items
+      ∙ ap (λ x. x ++ End end.Paragraph ∷ [])
+        (c.in_ok-write_inlines.ensures ∙ ap (λ x. x ++ events (inlines (map body_of (take count lines)))) c.in_ok-push.ensures.items))

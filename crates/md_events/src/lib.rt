@@ -1,0 +1,13 @@
+//! Events of Markdown: a text is read as the events of its tree.
+#![tactic(auto)]
+
+mod blocks;
+mod forms;
+pub mod laws;
+mod reader;
+
+pub use forms::built;
+pub use md_tree::{
+    Alignments, Attrs, BlockQuoteKind, Classes, CodeBlockKind, Event, HeadingLevel, Tag, TagEnd, well_formed,
+};
+pub use reader::read;

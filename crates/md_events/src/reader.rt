@@ -1,0 +1,22 @@
+// A text as the events of its tree.
+ghost use Rattle.std.specs.Prelude.{◌≡◌, IfOk, IsTrue};
+ghost use Rattle.md_tree.specs.Tree.{events};
+ghost use Rattle.md_events.specs.Blocks.{tree};
+ghost use Rattle.md_events.specs.Built.{built};
+
+use crate::blocks::write_blocks;
+use md_lines::lines_of;
+use md_tree::Event;
+use std::alloc::{AllocError, Global};
+
+/// The events of the text's tree; the texts in them borrow from it. The forms of the text must all be built: `built`
+/// tells.
+pub fn read<'a>(alloc: Global, text: &'a str) -> Result<Vec<Event<'a>>, AllocError>
+    requires { IsTrue (built text.now) }
+    ensures { IfOk result (λ v. v.items ≡ events (tree text.now)) }
+{
+    let lines = lines_of(alloc, text)?;
+    let mut out = Vec::new(alloc);
+    write_blocks(lines.as_slice(), &mut out)?;
+    Ok(out)
+}
