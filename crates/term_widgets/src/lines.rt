@@ -1,0 +1,61 @@
+// What a page asks of the lines of its text.
+ghost use Rattle.std.specs.Prelude.{◌≡◌, ◌^◌, ◌≤◌, ◌↔◌, length, IsTrue, IfOk, OnOk, IsErrOf, MatchOption};
+ghost use Rattle.term_core.specs.Graph.{graphs};
+ghost use Rattle.term_core.specs.Wrap.{NoneWider, wrap};
+ghost use Rattle.term_widgets.specs.Page.{AllFit, any_wider, rows_of};
+
+use term_core::{Cutter, Line, NoSteps, Steps, WidgetError};
+
+/// Whether no visible grapheme of the line is wider than the page.
+fn fits(line: &Line, width: usize) -> bool
+    ensures { IsTrue result ↔ NoneWider width (graphs line.now) }
+{
+    let mut rest = line.graphemes();
+    'graphs: while let Some(graph) = rest.next() {
+        if graph.width > width {
+            return false;
+        }
+    }
+    true
+}
+
+/// The number of rows of the line, if `usize` counts them.
+fn row_count(line: &Line, width: usize) -> Option<usize>
+    requires { NoneWider width (graphs line.now) }
+    ensures { MatchOption result (2 ^ 64 ≤ length (wrap width (graphs line.now)))
+        (λ n. n ≡ length (wrap width (graphs line.now))) }
+{
+    let mut cutter = Cutter::new(line, width);
+    let mut steps = Steps::new(NoSteps);
+    let mut count = 0usize;
+    'rows: while let Some(_row) = cutter.next_row(&mut steps) {
+        match count.checked_add(1) {
+            Some(next) => count = next,
+            None => return None,
+        }
+    }
+    Some(count)
+}
+
+/// The number of rows of the lines, each of which has to fit the page.
+pub(crate) fn count_rows(lines: &[Line], width: usize) -> Result<usize, WidgetError>
+    ensures ok { IfOk result (λ n. n ≡ length (rows_of width lines.now)) }
+    ensures fits { OnOk result (AllFit width lines.now) }
+    ensures narrow { IsErrOf result WidgetError.TooNarrow → IsTrue (any_wider width lines.now) }
+    ensures memory { IsErrOf result WidgetError.Memory → 2 ^ 64 ≤ length (rows_of width lines.now) }
+{
+    let mut rows = 0usize;
+    for line in lines {
+        if !fits(line, width) {
+            return Err(WidgetError::TooNarrow);
+        }
+        let Some(count) = row_count(line, width) else {
+            return Err(WidgetError::Memory);
+        };
+        let Some(sum) = rows.checked_add(count) else {
+            return Err(WidgetError::Memory);
+        };
+        rows = sum;
+    }
+    Ok(rows)
+}
