@@ -9,11 +9,13 @@ mod graphs;
 pub mod laws;
 mod line_ends;
 mod line_graphs;
+mod pieces;
 mod printable;
 mod stack;
 mod steps;
 mod style;
 mod text;
+mod walk;
 
 pub use alignment::Alignment;
 pub use cow_str::CowStr;
