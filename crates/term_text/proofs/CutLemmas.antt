@@ -1,5 +1,5 @@
 -- A walk along graphemes ends a row where `cut_of` says.
-use Rattle.std.proofs.Common.{◌≡◌, ℕ, zero, suc, ◌+◌, ◌-◌, ◌<◌, ◌≤◌, Bool, true, false, cond, nat_le, nat_lt, ◌&&◌, List, [], ◌∷◌, ◌++◌, length, take, drop, refl, sym, ap, ap₂, subst, ◌∙◌, arith, append_assoc, length-append, append-nil, zero-add, ◌==◌}
+use Rattle.std.proofs.Common.{◌≡◌, ℕ, zero, suc, ◌+◌, ◌-◌, ◌<◌, ◌≤◌, Bool, true, false, cond, nat_le, nat_lt, ◌&&◌, List, [], ◌∷◌, ◌++◌, length, take, drop, map, refl, sym, ap, ap₂, subst, ◌∙◌, arith, append_assoc, length-append, append-nil, zero-add, ◌==◌}
 use Rattle.std.proofs.lemmas.Bool.{and_parts}
 use Rattle.std.proofs.lemmas.Bool.Decides.{nat_tests}
 use Rattle.std.proofs.lemmas.List.Sums.{sum_by-cons}
@@ -8,7 +8,8 @@ use Rattle.term_text.specs.declared.style.Style.{Style}
 use Rattle.term_text.specs.declared.line_graphs.LineGraphemes.{LineGraphemes}
 use Rattle.term_text.specs.Graph.{Grapheme, columns, visible, is_visible, width_of, grapheme_of, spans_graphs, pieces_of}
 use Rattle.term_text.specs.Text.{SpanView}
-use Rattle.term_text.specs.Iter.{graphs_left, pieces_left}
+use Rattle.term_text.specs.Iter.{graphs_left, pieces_left, stretch_left}
+use Rattle.term_text.specs.Plain.{byte_grapheme}
 use Rattle.term_text.specs.LineIter.{line_left}
 use Rattle.term_text.specs.Wrap.{fitting, is_blank_at, last_blank, cut_of, unless_empty}
 use Rattle.term_text.specs.Cut.{mark_of, len_of, cut_from}
@@ -37,6 +38,10 @@ AllShown-visible style (p ∷ ps) = go (is_visible p) refl (AllShown-visible sty
     go true e k = (is_visible-width p e, k)
     go false e k = k
 
+AllShown-stretch : (style : Style) (bs : List ℕ) → AllShown (map (byte_grapheme style) bs)
+AllShown-stretch style [] = tt
+AllShown-stretch style (b ∷ bs) = (omega arith, AllShown-stretch style bs)
+
 AllShown-spans : (under : Style) (spans : List SpanView) → AllShown (spans_graphs under spans)
 unfolding spans_graphs
 AllShown-spans under [] = tt
@@ -44,7 +49,10 @@ AllShown-spans under (span ∷ spans) = AllShown-append _ _ (AllShown-visible _ 
 
 pub AllShown-line_left : (s : LineGraphemes) → AllShown (line_left s)
 unfolding line_left graphs_left
-AllShown-line_left s = AllShown-append _ _ (AllShown-visible s.current.style (pieces_left s.current)) (AllShown-spans s.under (drop s.place s.spans.now))
+AllShown-line_left s =
+    AllShown-append _ _
+    (AllShown-append _ _ (AllShown-stretch s.current.style (stretch_left s.current)) (AllShown-visible s.current.style (pieces_left s.current)))
+    (AllShown-spans s.under (drop s.place s.spans.now))
 
 pub width_some : (gs rest : List Grapheme) (g : Grapheme) → AllShown gs → gs ≡ g ∷ rest → 1 ≤ g.width
 width_some gs rest g h e = (subst AllShown e h).0

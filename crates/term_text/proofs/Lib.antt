@@ -8,3 +8,5 @@ pub mod EndLemmas
 pub mod PlainTables
 pub mod PlainWidths
 pub mod PlainLemmas
+pub mod PrintableLemmas
+pub mod StretchLemmas

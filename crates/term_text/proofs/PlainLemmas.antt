@@ -154,7 +154,7 @@ printable_plain b h = ap (λ v. v || is_in_range 0x2500 0x257F b) h
 printable_ascii : (b : ℕ) → is_printable b ≡ true → b < 128
 printable_ascii b h = grind (arith, nat_tests)
 
-IsAscii-printable : (text : List ℕ) → IsPrintable text → IsAscii text
+pub IsAscii-printable : (text : List ℕ) → IsPrintable text → IsAscii text
 IsAscii-printable [] h i = lit< tt
 IsAscii-printable (b ∷ bs) h zero = printable_ascii b (and_parts (is_printable b) (list_all is_printable bs) h).0
 IsAscii-printable (b ∷ bs) h (suc i) = IsAscii-printable bs (and_parts (is_printable b) (list_all is_printable bs) h).1 i

@@ -12,3 +12,4 @@ pub mod Counted
 pub mod Cut
 pub mod Rows
 pub mod Stack
+pub mod Walk

@@ -1,16 +1,16 @@
 // Lines cut into rows.
-ghost use Rattle.std.specs.Prelude.{◌≡◌, ℕ, ◌≤◌, true, false, is_some, nat_le, length, if◌then◌else◌};
+ghost use Rattle.std.specs.Prelude.{◌≡◌, ◌≤◌, is_some, if◌then◌else◌};
 ghost use Rattle.std.specs.Iterator.{YieldsFirstBy, item_count};
 ghost use Rattle.std.specs.List.{All};
-ghost use Rattle.term_text.specs.Cut.{mark_of, len_of};
-ghost use Rattle.term_text.specs.Graph.{graphs, columns};
+ghost use Rattle.term_text.specs.Graph.{graphs};
 ghost use Rattle.term_text.specs.LineIter.{line_left};
-ghost use Rattle.term_text.specs.Wrap.{wrap, cut_of, NoneWider};
+ghost use Rattle.term_text.specs.Wrap.{wrap, NoneWider};
 
-use crate::graphs::Graph;
+use crate::grapheme::Graph;
 use crate::line_graphs::LineGraphemes;
 use crate::steps::{Ledger, Steps};
 use crate::text::Line;
+use crate::walk::cut_at;
 
 /// Cuts a line into rows.
 #[derive(Drop)]
@@ -54,38 +54,6 @@ impl<'t, 'a> Cutter<'t, 'a> {
         self.is_done = self.graphs.is_empty();
         Some(Row { graphs, len })
     }
-}
-
-/// How many graphemes the first row has, and whether they are all.
-fn cut_at(graphs: &LineGraphemes, width: usize) -> (usize, bool)
-    ensures { result ≡ (if nat_le (columns (line_left graphs.now)) width then (length (line_left graphs.now), true)
-        else (cut_of width (line_left graphs.now), false)) }
-{
-    let mut ahead = graphs.copy();
-    let mut room = width;
-    let mut count = 0;
-    let mut mark = 0;
-    'row: while let Some(graph) = ahead.next() {
-        mark = mark_of(graph.blank, count, mark);
-        if graph.width > room {
-            return (len_of(mark, count), false);
-        }
-        room -= graph.width;
-        count += 1;
-    }
-    (count, true)
-}
-
-fn mark_of(blank: bool, count: usize, mark: usize) -> usize
-    ensures { result ≡ mark_of blank count mark }
-{
-    if 0 < count && blank { count } else { mark }
-}
-
-fn len_of(mark: usize, count: usize) -> usize
-    ensures { result ≡ len_of mark count }
-{
-    if 0 < mark { mark } else { count }
 }
 
 /// A row of a line.

@@ -1,67 +1,33 @@
 // The visible graphemes of a span.
-ghost use Rattle.std.specs.Prelude.{⊤, ◌≡◌, ◌-◌, ◌^◌, min, [], true, false, chars, MatchOption};
-ghost use Rattle.std.specs.Char.{is_control};
+ghost use Rattle.std.specs.Prelude.{⊤, ◌≡◌, ◌≤◌, ◌<◌, ◌-◌, ◌^◌, min, [], ◌∷◌, true, false, drop, length};
 ghost use Rattle.std.specs.Iterator.{YieldsFirstBy, item_count};
-ghost use Rattle.std.specs.List.{list_any, list_all};
-ghost use Rattle.term_text.specs.Iter.{grapheme};
-ghost use Rattle.term_text.specs.Graph.{grapheme_of, width_of, is_visible, is_blank, visible, pieces_of, columns};
+ghost use Rattle.std.specs.List.{list_all};
+ghost use Rattle.unicode_segmentation.specs.Grapheme.{graphemes};
+ghost use Rattle.term_text.specs.Graph.{visible, pieces_of, columns};
+ghost use Rattle.term_text.specs.Plain.{is_printable};
 
+use crate::grapheme::Graph;
+use crate::pieces::graph_of;
 use crate::style::Style;
 use crate::text::Span;
 use std::alloc::AllocError;
 use unicode_segmentation::UnicodeSegmentation;
-use unicode_width::UnicodeWidthStr;
-
-/// A visible grapheme.
-#[derive(Clone, Copy, Debug)]
-pub struct Graph<'a> {
-    pub symbol: &'a str,
-    pub style: Style,
-    pub width: usize,
-    pub blank: bool,
-}
 
 /// An iterator over the visible graphemes of a span.
 #[derive(Drop)]
 pub struct Graphemes<'a> {
-    pieces: unicode_segmentation::Graphemes<'a>,
+    // A text of printable ASCII, whose bytes come first, and how many of them are passed.
+    stretch: &'a str,
+    passed: usize,
     glyph: Option<&'a str>,
+    pieces: unicode_segmentation::Graphemes<'a>,
     style: Style,
-}
-
-/// Whether the piece has a control character.
-fn has_control(piece: &str) -> bool
-    ensures { result ≡ list_any is_control (chars piece.now) }
-{
-    piece.chars().any(|c| c.is_control())
-}
-
-/// Whether all characters of the piece are whitespace.
-fn is_blank(piece: &str) -> bool
-    ensures { result ≡ is_blank piece.now }
-{
-    piece.chars().all(|c| c.is_whitespace())
-}
-
-/// The piece as a grapheme, if it is visible.
-fn graph_of<'a>(piece: &'a str, style: Style) -> Option<Graph<'a>>
-    ensures { MatchOption result (is_visible piece.now ≡ false)
-        (λ g. (is_visible piece.now ≡ true) × (grapheme g ≡ grapheme_of style piece.now)) }
-{
-    let width = piece.width();
-    if has_control(piece) || width < 1 {
-        return None;
-    }
-    Some(Graph {
-        symbol: piece,
-        style,
-        width,
-        blank: is_blank(piece),
-    })
+    ghost printable: { list_all is_printable stretch.now ≡ true },
+    ghost within: { passed ≤ length stretch.now },
 }
 
 impl<'a> Graphemes<'a> {
-    ghost use Rattle.term_text.specs.Iter.{pieces_left, graphs_left};
+    ghost use Rattle.term_text.specs.Iter.{grapheme, pieces_left, stretch_left, graphs_left};
 
     /// The graphemes of the span, in the style.
     pub(crate) fn new(span: &'a Span<'_>, style: Style) -> Graphemes<'a>
@@ -69,39 +35,56 @@ impl<'a> Graphemes<'a> {
     {
         let text = span.text();
         if span.is_glyph() {
-            Graphemes {
-                pieces: "".graphemes(true),
-                glyph: Some(text),
-                style,
-            }
-        } else {
-            Graphemes {
-                pieces: text.graphemes(true),
-                glyph: None,
-                style,
-            }
+            return Graphemes::of_glyph(text, style);
         }
+        if span.is_printable() {
+            return Graphemes::of_stretch(text, style);
+        }
+        Graphemes::of_text(text, style)
     }
 
     /// No graphemes.
     pub(crate) fn none(style: Style) -> Graphemes<'a>
         ensures { graphs_left result ≡ [] }
     {
+        Graphemes::of_text("", style)
+    }
+
+    fn of_glyph(text: &'a str, style: Style) -> Graphemes<'a>
+        ensures { graphs_left result ≡ visible style (text.now ∷ []) }
+    {
         Graphemes {
+            stretch: "",
+            passed: 0,
+            glyph: Some(text),
             pieces: "".graphemes(true),
-            glyph: None,
             style,
         }
     }
 
-    fn next_piece(&mut self) -> Option<&'a str>
-        ensures piece { YieldsFirstBy (λ piece. piece.now) pieces_left self.old result self.new }
-        ensures style { self.new.style ≡ self.old.style }
+    fn of_stretch(text: &'a str, style: Style) -> Graphemes<'a>
+        requires { list_all is_printable text.now ≡ true }
+        ensures { graphs_left result ≡ visible style (graphemes true text.now) }
     {
-        if let Some(text) = self.glyph.take() {
-            return Some(text);
+        Graphemes {
+            stretch: text,
+            passed: 0,
+            glyph: None,
+            pieces: "".graphemes(true),
+            style,
         }
-        self.pieces.next()
+    }
+
+    fn of_text(text: &'a str, style: Style) -> Graphemes<'a>
+        ensures { graphs_left result ≡ visible style (graphemes true text.now) }
+    {
+        Graphemes {
+            stretch: "",
+            passed: 0,
+            glyph: None,
+            pieces: text.graphemes(true),
+            style,
+        }
     }
 
     /// The same graphemes again.
@@ -112,10 +95,69 @@ impl<'a> Graphemes<'a> {
             unreachable!();
         };
         Graphemes {
-            pieces,
+            stretch: self.stretch,
+            passed: self.passed,
             glyph: self.glyph,
+            pieces,
             style: self.style,
         }
+    }
+
+    /// The printable bytes in front, each a grapheme.
+    pub(crate) fn stretch(&self) -> &'a [u8]
+        ensures { result.now ≡ stretch_left self.now }
+    {
+        &self.stretch.as_bytes()[self.passed..]
+    }
+
+    /// Passes over n of the printable bytes in front.
+    pub(crate) fn pass_stretch(&mut self, n: usize)
+        requires { n ≤ length (stretch_left self.old) }
+        ensures { graphs_left self.new ≡ drop n (graphs_left self.old) }
+    {
+        prove!(n <= self.stretch.len());
+        self.passed += n;
+    }
+
+    /// The first of the printable bytes in front.
+    fn next_byte(&mut self) -> Graph<'a>
+        requires { 0 < length (stretch_left self.old) }
+        ensures { graphs_left self.old ≡ grapheme result ∷ graphs_left self.new }
+    {
+        let at = self.passed;
+        let blank = self.stretch.as_bytes()[at] == b' ';
+        self.passed = at + 1;
+        let stretch = self.stretch;
+        Graph {
+            symbol: &stretch[at..at + 1],
+            style: self.style,
+            width: 1,
+            blank,
+        }
+    }
+
+    /// The first visible piece, behind the printable bytes.
+    fn next_shown(&mut self) -> Option<Graph<'a>>
+        requires { stretch_left self.old ≡ [] }
+        ensures { YieldsFirstBy grapheme graphs_left self.old result self.new }
+    {
+        while let Some(piece) = self.next_piece() {
+            if let Some(graph) = graph_of(piece, self.style) {
+                return Some(graph);
+            }
+        }
+        None
+    }
+
+    fn next_piece(&mut self) -> Option<&'a str>
+        ensures piece { YieldsFirstBy (λ piece. piece.now) pieces_left self.old result self.new }
+        ensures style { self.new.style ≡ self.old.style }
+        ensures stretch { stretch_left self.new ≡ stretch_left self.old }
+    {
+        if let Some(text) = self.glyph.take() {
+            return Some(text);
+        }
+        self.pieces.next()
     }
 }
 
@@ -141,12 +183,10 @@ impl<'a> Iterator for Graphemes<'a> {
     ghost remaining = { item_count graphs_left };
 
     fn next(&mut self) -> Option<Graph<'a>> {
-        while let Some(piece) = self.next_piece() {
-            if let Some(graph) = graph_of(piece, self.style) {
-                return Some(graph);
-            }
+        if self.passed < self.stretch.len() {
+            return Some(self.next_byte());
         }
-        None
+        self.next_shown()
     }
 
     fn size_hint(&self) -> (usize, Option<usize>) {

@@ -4,19 +4,24 @@
 mod alignment;
 mod cow_str;
 mod cutter;
+mod grapheme;
 mod graphs;
 pub mod laws;
 mod line_ends;
 mod line_graphs;
+mod pieces;
+mod printable;
 mod stack;
 mod steps;
 mod style;
 mod text;
+mod walk;
 
 pub use alignment::Alignment;
 pub use cow_str::CowStr;
 pub use cutter::{Cutter, Row, RowGraphemes};
-pub use graphs::{Graph, Graphemes};
+pub use grapheme::Graph;
+pub use graphs::Graphemes;
 pub use line_ends::{end_length, first_end, next_line, next_line_of_bytes};
 pub use line_graphs::LineGraphemes;
 pub use stack::Stack;

@@ -1,12 +1,14 @@
 // The visible graphemes of a line.
-ghost use Rattle.std.specs.Prelude.{⊤, ◌≡◌, ◌==◌, length, drop};
+ghost use Rattle.std.specs.Prelude.{⊤, ◌≡◌, ◌==◌, ◌≤◌, ◌<◌, true, false, length, drop};
 ghost use Rattle.std.specs.Iterator.{YieldsFirstBy, item_count};
 ghost use Rattle.term_text.specs.Graph.{graphs, spans_graphs};
-ghost use Rattle.term_text.specs.Iter.{grapheme, graphs_left};
+ghost use Rattle.term_text.specs.Iter.{grapheme, stretch_left, graphs_left};
 ghost use Rattle.term_text.specs.LineIter.{line_left};
 ghost use Rattle.term_text.specs.Wrap.{skip_blanks};
 
-use crate::graphs::{Graph, Graphemes};
+use crate::grapheme::Graph;
+use crate::graphs::Graphemes;
+use crate::printable::leading_spaces;
 use crate::style::Style;
 use crate::text::{Line, Span};
 use std::alloc::AllocError;
@@ -45,34 +47,87 @@ impl<'t, 'a> LineGraphemes<'t, 'a> {
         }
     }
 
+    /// The printable bytes in front, each a grapheme.
+    pub(crate) fn stretch(&self) -> &'t [u8]
+        ensures { result.now ≡ stretch_left self.now.current }
+    {
+        self.current.stretch()
+    }
+
+    /// Passes over n of the printable bytes in front.
+    pub(crate) fn pass_stretch(&mut self, n: usize)
+        requires { n ≤ length (stretch_left self.old.current) }
+        ensures { line_left self.new ≡ drop n (line_left self.old) }
+    {
+        self.current.pass_stretch(n);
+    }
+
     /// Passes over n graphemes.
     pub(crate) fn pass(&mut self, n: usize)
         ensures { line_left self.new ≡ drop n (line_left self.old) }
     {
-        for i in 0..n {
-            let Some(_) = self.next() else {
-                return;
-            };
+        let mut more = n;
+        while more > 0 {
+            more -= self.pass_some(more);
         }
+    }
+
+    /// Passes over some of n graphemes, at once where they are printable bytes, and says how many.
+    fn pass_some(&mut self, n: usize) -> usize
+        requires { 0 < n }
+        ensures left { line_left self.new ≡ drop result (line_left self.old) }
+        ensures some { 0 < result }
+        ensures within { result ≤ n }
+    {
+        let stretch = self.stretch().len();
+        if stretch > 0 {
+            let some = stretch.min(n);
+            self.pass_stretch(some);
+            return some;
+        }
+        let Some(_) = self.next() else {
+            return n;
+        };
+        1
     }
 
     /// Passes over the blanks in front.
     pub(crate) fn pass_blanks(&mut self)
         ensures { line_left self.new ≡ skip_blanks (line_left self.old) }
     {
-        let mut ahead = self.copy();
-        'blanks: while let Some(graph) = ahead.next() {
-            if !graph.blank {
-                return;
-            }
-            *self = ahead.copy();
+        'blanks: while self.pass_some_blanks() {}
+    }
+
+    /// Passes over some of the blanks in front, if one is there.
+    fn pass_some_blanks(&mut self) -> bool
+        ensures skipped { skip_blanks (line_left self.new) ≡ skip_blanks (line_left self.old) }
+        ensures stopped { result ≡ false → line_left self.new ≡ skip_blanks (line_left self.old) }
+        ensures shorter { result ≡ true → length (line_left self.new) < length (line_left self.old) }
+    {
+        let stretch = self.stretch();
+        if stretch.len() > 0 {
+            let blanks = leading_spaces(stretch);
+            self.pass_stretch(blanks);
+            return blanks > 0;
         }
+        let mut ahead = self.copy();
+        let Some(graph) = ahead.next() else {
+            return false;
+        };
+        if !graph.blank {
+            return false;
+        }
+        *self = ahead;
+        true
     }
 
     /// Whether no grapheme is left.
     pub(crate) fn is_empty(&self) -> bool
         ensures { result ≡ (length (line_left self.now) == 0) }
     {
+        if self.stretch().len() > 0 {
+            return false;
+        }
         let mut ahead = self.copy();
         match ahead.next() {
             Some(_) => false,

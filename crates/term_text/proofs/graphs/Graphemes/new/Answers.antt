@@ -1,14 +1,22 @@
-use Rattle.std.proofs.Common.{refl}
-use Rattle.term_text.specs.Iter.{graphs_left, pieces_left}
-use Rattle.term_text.proofs.GraphLemmas.{segments-nil}
+use Rattle.std.proofs.Common.{ap, cond, ◌∙◌, true, [], ◌∷◌}
+use Rattle.unicode_segmentation.specs.Grapheme.{graphemes}
+use Rattle.term_text.specs.Graph.{visible}
 use Rattle.term_text.proofs.graphs.Graphemes.new.Goals as goal
 
 pub returns-then-is_glyph : goal.returns-then-is_glyph
-unfolding graphs_left pieces_left
 returns-then-is_glyph c =
-    rw (c.graphemes.ensures.left, segments-nil, c.text-text.ensures, ← c.if-is_glyph.ensures) refl
+    let s = c.args.span.now in
+    c.of_glyph.ensures ∙ ap (λ text. visible c.args.style (text ∷ [])) c.text-text.ensures
+    ∙ ap (λ b. visible c.args.style (cond b (s.text ∷ []) (graphemes true s.text))) c.if-is_glyph.ensures
 
-pub returns-else-is_glyph : goal.returns-else-is_glyph
-unfolding graphs_left pieces_left
-returns-else-is_glyph c =
-    rw (c.graphemes-else-is_glyph.ensures.left, c.text-text.ensures, ← c.if-is_glyph.ensures) refl
+pub returns-then-is_printable : goal.returns-then-is_printable
+returns-then-is_printable c =
+    let s = c.args.span.now in
+    c.of_stretch.ensures ∙ ap (λ text. visible c.args.style (graphemes true text)) c.text-text.ensures
+    ∙ ap (λ b. visible c.args.style (cond b (s.text ∷ []) (graphemes true s.text))) c.if-is_glyph.ensures
+
+pub returns : goal.returns
+returns c =
+    let s = c.args.span.now in
+    c.of_text.ensures ∙ ap (λ text. visible c.args.style (graphemes true text)) c.text-text.ensures
+    ∙ ap (λ b. visible c.args.style (cond b (s.text ∷ []) (graphemes true s.text))) c.if-is_glyph.ensures

@@ -1,12 +1,20 @@
 use Rattle.std.proofs.Common.{arith}
 use Rattle.std.proofs.lemmas.Grind.{common_steps}
-use Rattle.term_text.specs.Iter.{pieces_left}
+use Rattle.term_text.specs.Iter.{pieces_left, stretch_left}
 use Rattle.term_text.proofs.graphs.Graphemes.next_piece.Goals as goal
 
 pub returns-in-Some-clause-piece : goal.returns-in-Some-clause-piece
-unfolding pieces_left
+unfolding pieces_left stretch_left
 returns-in-Some-clause-piece c = grind (arith, common_steps)
 
 pub returns-clause-piece : goal.returns-clause-piece
-unfolding pieces_left
+unfolding pieces_left stretch_left
 returns-clause-piece c = grind (arith, common_steps)
+
+pub returns-in-Some-clause-stretch : goal.returns-in-Some-clause-stretch
+unfolding stretch_left
+returns-in-Some-clause-stretch c = grind (arith, common_steps)
+
+pub returns-clause-stretch : goal.returns-clause-stretch
+unfolding stretch_left
+returns-clause-stretch c = grind (arith, common_steps)
