@@ -2,7 +2,7 @@
 use Rattle.std.specs.Prelude.{ℕ, List, [], ◌∷◌, ◌++◌, Option, Some, None}
 use Rattle.std.specs.Borrow.{Bor}
 use Rattle.unicode_segmentation.specs.Iter.{graphemes_left}
-use Rattle.term_text.specs.declared.graphs.Graph.{Graph}
+use Rattle.term_text.specs.declared.grapheme.Graph.{Graph}
 use Rattle.term_text.specs.declared.graphs.Graphemes.{Graphemes}
 use Rattle.term_text.specs.Graph.{Grapheme, visible}
 

@@ -4,7 +4,7 @@ ghost use Rattle.std.specs.Prelude.{◌≡◌, string_bytes, IfOk, IfSome};
 use std::alloc::{AllocError, Global};
 use std::marker::Model;
 
-/// A text that is borrowed or owned.
+/// A text that is borrowed for `'a` or owned. A contract sees its bytes, and not whether it is borrowed.
 #[derive(Drop)]
 pub struct CowStr<'a> {
     inner: Inner<'a>,
@@ -27,6 +27,7 @@ impl<'a> Model for CowStr<'a> {
 }
 
 impl<'a> CowStr<'a> {
+    /// A borrowed text.
     pub fn borrowed(text: &'a str) -> CowStr<'a>
         ensures { result ≡ text.now }
     {
@@ -35,6 +36,7 @@ impl<'a> CowStr<'a> {
         }
     }
 
+    /// An owned text.
     pub fn owned(text: String) -> CowStr<'a>
         ensures { result ≡ string_bytes text }
     {
@@ -43,6 +45,7 @@ impl<'a> CowStr<'a> {
         }
     }
 
+    /// The text.
     pub fn as_str(&self) -> &str
         ensures { result.now ≡ self.now }
     {
@@ -52,6 +55,17 @@ impl<'a> CowStr<'a> {
         }
     }
 
+    /// The text for as long as it is borrowed, or `None` where it is owned.
+    pub fn as_borrowed(&self) -> Option<&'a str>
+        ensures { IfSome result (λ text. text.now ≡ self.now) }
+    {
+        match &self.inner {
+            Inner::Borrowed(text) => Some(*text),
+            Inner::Owned(_) => None,
+        }
+    }
+
+    /// The same text, borrowed again where it is borrowed, or want of memory.
     pub fn try_clone(&self, alloc: Global) -> Result<CowStr<'a>, AllocError>
         ensures { IfOk result (λ copy. copy ≡ self.now) }
     {

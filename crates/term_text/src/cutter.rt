@@ -7,7 +7,7 @@ ghost use Rattle.term_text.specs.Graph.{graphs, columns};
 ghost use Rattle.term_text.specs.LineIter.{line_left};
 ghost use Rattle.term_text.specs.Wrap.{wrap, cut_of, NoneWider};
 
-use crate::graphs::Graph;
+use crate::grapheme::Graph;
 use crate::line_graphs::LineGraphemes;
 use crate::steps::{Ledger, Steps};
 use crate::text::Line;

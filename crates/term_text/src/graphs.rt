@@ -6,20 +6,12 @@ ghost use Rattle.std.specs.List.{list_any, list_all};
 ghost use Rattle.term_text.specs.Iter.{grapheme};
 ghost use Rattle.term_text.specs.Graph.{grapheme_of, width_of, is_visible, is_blank, visible, pieces_of, columns};
 
+use crate::grapheme::Graph;
 use crate::style::Style;
 use crate::text::Span;
 use std::alloc::AllocError;
 use unicode_segmentation::UnicodeSegmentation;
 use unicode_width::UnicodeWidthStr;
-
-/// A visible grapheme.
-#[derive(Clone, Copy, Debug)]
-pub struct Graph<'a> {
-    pub symbol: &'a str,
-    pub style: Style,
-    pub width: usize,
-    pub blank: bool,
-}
 
 /// An iterator over the visible graphemes of a span.
 #[derive(Drop)]

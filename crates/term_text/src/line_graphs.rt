@@ -6,7 +6,8 @@ ghost use Rattle.term_text.specs.Iter.{grapheme, graphs_left};
 ghost use Rattle.term_text.specs.LineIter.{line_left};
 ghost use Rattle.term_text.specs.Wrap.{skip_blanks};
 
-use crate::graphs::{Graph, Graphemes};
+use crate::grapheme::Graph;
+use crate::graphs::Graphemes;
 use crate::style::Style;
 use crate::text::{Line, Span};
 use std::alloc::AllocError;

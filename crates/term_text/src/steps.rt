@@ -3,17 +3,20 @@ ghost use Rattle.std.specs.Prelude.{⊤, ◌≡◌, ℕ, ◌+◌, ◌-◌, ◌^�
 
 use std::marker::Model;
 
-/// Notes steps.
+/// Notes the steps of calls whose work is promised: what a ledger does at a note is its own matter.
 pub trait Ledger {
-    // That so many notes lead from the one state to the other.
+    // So many notes lead from the one state to the other.
     ghost noted: { ℕ → Self → Self → Type 0 };
 
+    /// Notes one step.
     fn note(&mut self)
         ensures { noted 1 self.old self.new };
 
+    // No note leaves a state as it is.
     ghost noted_none: { (a : Self) → noted 0 a a };
 
-    ghost noted_more: { (n : ℕ) (a b c : Self) → noted n a b → noted 1 b c → noted (n + 1) a c };
+    // Notes add up.
+    ghost noted_sum: { (m n : ℕ) (a b c : Self) → noted m a b → noted n b c → noted (m + n) a c };
 }
 
 /// A ledger that keeps nothing.
@@ -27,22 +30,24 @@ impl Ledger for NoSteps {
 
     ghost noted_none = { λ _. tt };
 
-    ghost noted_more = { λ _ _ _ _ _ _. tt };
+    ghost noted_sum = { λ _ _ _ _ _ _ _. tt };
 }
 
-/// A ledger that counts, and stays at the last number.
+/// A ledger that counts its notes, and stays at the greatest number once it is reached.
 #[derive(Drop)]
 pub struct Counted {
     count: u64,
 }
 
 impl Counted {
+    /// A count of 0.
     pub fn new() -> Counted
         ensures { result.count ≡ 0 }
     {
         Counted { count: 0 }
     }
 
+    /// The number of notes, or the greatest number if there were more.
     pub fn count(&self) -> u64
         ensures { result ≡ self.now.count }
     {
@@ -51,7 +56,7 @@ impl Counted {
 }
 
 impl Ledger for Counted {
-    ghost use Rattle.term_text.specs.Counted.{counted_more, counted_none};
+    ghost use Rattle.term_text.specs.Counted.{counted_none, counted_sum};
 
     ghost noted = { λ n a b. a.count < 2 ^ 64 → b.count ≡ min (a.count + n) (2 ^ 64 - 1) };
 
@@ -61,10 +66,10 @@ impl Ledger for Counted {
 
     ghost noted_none = { λ a. counted_none a.count };
 
-    ghost noted_more = { λ n a b c p q. counted_more n a.count b.count c.count p q };
+    ghost noted_sum = { λ m n a b c p q. counted_sum m n a.count b.count c.count p q };
 }
 
-/// Steps that are noted in a ledger.
+/// Steps that are noted in a ledger. A contract sees its ledger, and says by `noted` how many steps a call takes.
 #[derive(Drop)]
 pub struct Steps<L: Ledger> {
     ledger: L,
@@ -77,18 +82,21 @@ impl<L: Ledger> Model for Steps<L> {
 }
 
 impl<L: Ledger> Steps<L> {
+    /// Steps that the ledger will note.
     pub fn new(ledger: L) -> Steps<L>
         ensures { result ≡ ledger }
     {
         Steps { ledger }
     }
 
+    /// The ledger.
     pub fn ledger(&self) -> &L
         ensures { result.now ≡ self.now }
     {
         &self.ledger
     }
 
+    /// Notes one step.
     pub(crate) fn tick(&mut self)
         ensures { L.noted 1 self.old self.new }
     {

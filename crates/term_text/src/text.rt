@@ -1,20 +1,25 @@
 // Spans, lines and texts.
 ghost use Rattle.std.specs.Prelude.{ℕ, ◌≡◌, ◌==◌, ◌+◌, ◌^◌, ◌<◌, List, [], ◌∷◌, ◌++◌, length, true, false, IfOk, OnOk, OnErr, if◌then◌else◌};
 ghost use Rattle.term_text.specs.Text.{SpanView, LineView, raw_spans};
+ghost use Rattle.std.specs.List.{list_all};
 ghost use Rattle.std.specs.Str.Lines.{lines};
+ghost use Rattle.term_text.specs.Plain.{is_printable};
 ghost use Rattle.term_text.specs.Style.{no_style};
 
 use crate::cow_str::CowStr;
+use crate::printable::all_printable;
 use crate::style::Style;
 use std::alloc::{AllocError, Global};
 use std::marker::Model;
 
-/// A text in one style.
+/// A text in one style, which may be a glyph: one grapheme, whatever its characters.
 #[derive(Drop)]
 pub struct Span<'a> {
     text: CowStr<'a>,
     style: Style,
     is_glyph: bool,
+    // Whether the text is printable ASCII, which is asked once.
+    printable: bool,
 }
 
 impl<'a> Model for Span<'a> {
@@ -23,66 +28,99 @@ impl<'a> Model for Span<'a> {
     ghost Value = { SpanView };
 
     ghost view = { λ s. record { text = s.text; style = s.style; is_glyph = s.is_glyph } };
+
+    ghost use Rattle.std.specs.Prelude.{◌≡◌};
+    ghost use Rattle.std.specs.List.{list_all};
+    ghost use Rattle.term_text.specs.Plain.{is_printable};
+
+    ghost invariant = { λ s. s.printable ≡ list_all is_printable s.text };
 }
 
 impl<'a> Span<'a> {
+    /// A text in no style.
     pub fn raw(text: CowStr<'a>) -> Span<'a>
         ensures { result ≡ record { text = text.entry; style = no_style; is_glyph = false } }
     {
-        Span {
-            text,
-            style: Style::new(),
-            is_glyph: false,
-        }
+        Span::styled(text, Style::new())
     }
 
+    /// A text in a style.
     pub fn styled(text: CowStr<'a>, style: Style) -> Span<'a>
         ensures { result ≡ record { text = text.entry; style = style; is_glyph = false } }
     {
+        let printable = all_printable(text.as_str().as_bytes());
         Span {
             text,
             style,
             is_glyph: false,
+            printable,
         }
     }
 
+    /// A text that is one grapheme, in a style.
     pub fn glyph(text: CowStr<'a>, style: Style) -> Span<'a>
         ensures { result ≡ record { text = text.entry; style = style; is_glyph = true } }
     {
+        let printable = all_printable(text.as_str().as_bytes());
         Span {
             text,
             style,
             is_glyph: true,
+            printable,
         }
     }
 
+    /// The same text, a glyph where it was one, in the style.
     pub fn with_style(self, style: Style) -> Span<'a>
         ensures { result ≡ record self.entry { style = style } }
     {
-        let Span { text, is_glyph, .. } = self;
+        let Span {
+            text,
+            is_glyph,
+            printable,
+            ..
+        } = self;
         Span {
             text,
             style,
             is_glyph,
+            printable,
         }
     }
 
+    /// The text.
     pub fn text(&self) -> &str
         ensures { result.now ≡ self.now.text }
     {
         self.text.as_str()
     }
 
+    /// The text as it is held, borrowed or owned.
+    pub fn cow(&self) -> &CowStr<'a>
+        ensures { result.now ≡ self.now.text }
+    {
+        &self.text
+    }
+
+    /// The style.
     pub fn style(&self) -> Style
         ensures { result ≡ self.now.style }
     {
         self.style
     }
 
+    /// Whether the whole text is one grapheme.
     pub fn is_glyph(&self) -> bool
         ensures { result ≡ self.now.is_glyph }
     {
         self.is_glyph
+    }
+
+    /// Whether each byte of the text is printable ASCII.
+    pub(crate) fn is_printable(&self) -> bool
+        ensures { result ≡ list_all is_printable self.now.text }
+    {
+        self.printable
     }
 }
 
