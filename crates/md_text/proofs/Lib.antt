@@ -1,0 +1,6 @@
+pub mod Lines
+pub mod Draws
+pub mod TextLines
+pub mod Runs
+pub mod Pieces
+pub mod Starts

@@ -1,0 +1,42 @@
+-- What leaves lay out.
+use Rattle.std.specs.Prelude.{ℕ, Bool, true, false, List, [], ◌∷◌, codes}
+use Rattle.std.specs.Str.Lines.{lines}
+use Rattle.md_tree.specs.declared.event.Event.{Event}
+use Rattle.md_tree.specs.declared.event.Event.TheVariants as event
+use Rattle.md_text.specs.declared.environment.Environment.{Environment}
+use Rattle.md_text.specs.declared.environment.Spacing.{Spacing}
+use Rattle.md_text.specs.Marks.{plain_span, styled_span}
+use Rattle.md_text.specs.Laid.{Laid, nothing_laid, then_laid, open_laid, join_laid, put_laid}
+
+-- a text's first line joins, and each later one opens a line
+abbrev pub begin_line : Bool → Environment → Spacing → Laid
+begin_line true env spacing = join_laid env spacing
+begin_line false env spacing = open_laid env spacing
+
+abbrev pub text_line : Bool → Environment → Spacing → List ℕ → Laid
+text_line is_first env spacing line =
+    then_laid (begin_line is_first env spacing) (λ begun. put_laid begun (styled_span line env.inline_style))
+
+abbrev pub text_lines : Bool → Environment → Spacing → List (List ℕ) → Laid
+text_lines is_first env spacing [] = nothing_laid spacing
+text_lines is_first env spacing (line ∷ others) =
+    then_laid (text_line is_first env spacing line) (λ behind. text_lines false env behind others)
+
+-- Text: its lines, each put in the inline style; an empty text has none
+abbrev pub text : Environment → Spacing → List ℕ → Laid
+text env spacing bytes = text_lines true env spacing (lines bytes)
+
+-- Soft break: Put one blank, plain
+abbrev pub soft_break : Spacing → Laid
+soft_break spacing = put_laid spacing (plain_span (codes " "))
+
+-- Hard break: Open
+abbrev pub hard_break : Environment → Spacing → Laid
+hard_break env spacing = open_laid env spacing
+
+-- a leaf; those without a row as yet are laid out as nothing
+abbrev pub leaf : Environment → Spacing → Event → Laid
+leaf env spacing (event.Text bytes) = text env spacing bytes
+leaf env spacing event.SoftBreak = soft_break spacing
+leaf env spacing event.HardBreak = hard_break env spacing
+leaf env spacing _ = nothing_laid spacing

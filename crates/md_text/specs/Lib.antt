@@ -1,0 +1,10 @@
+pub mod Marks
+pub mod Laid
+pub mod Environment
+pub mod Blocks
+pub mod Inlines
+pub mod Layout
+pub mod Pieces
+pub mod State
+pub mod Options
+pub mod RenderError

@@ -1,0 +1,17 @@
+//! The lines of styled spans that a Markdown text lays out.
+#![tactic(auto)]
+
+mod environment;
+mod error;
+mod frame;
+mod highlight;
+pub mod laws;
+mod machine;
+mod options;
+mod render;
+mod styles;
+
+pub use error::RenderError;
+pub use highlight::{AnsiFence, Highlighter, NoHighlight};
+pub use options::Options;
+pub use styles::{DefaultStyleSheet, StyleSheet};

@@ -1,0 +1,75 @@
+// What leaves lay out.
+ghost use Rattle.std.specs.Prelude.{◌≡◌, OnOk};
+ghost use Rattle.md_text.specs.Inlines.{begin_line, text_line, text, soft_break, leaf};
+ghost use Rattle.md_text.specs.State.{laid};
+
+use super::Machine;
+use md_tree::Event;
+use std::alloc::AllocError;
+use term_text::{CowStr, Span};
+
+impl<'a> Machine<'a> {
+    /// What a leaf lays out; those without a row as yet are laid out as nothing.
+    pub(super) fn leaf(&mut self, event: &Event<'a>) -> Result<(), AllocError>
+        ensures { OnOk result (self.new ≡ laid self.old (leaf self.old.environment self.old.spacing event.now)) }
+    {
+        match event {
+            Event::Text(content) => self.text(content),
+            Event::SoftBreak => self.soft_break(),
+            Event::HardBreak => self.open(),
+            _ => Ok(()),
+        }
+    }
+
+    /// The lines of a text, which are copied only where the text is owned.
+    fn text(&mut self, content: &CowStr<'a>) -> Result<(), AllocError>
+        ensures { OnOk result (self.new ≡ laid self.old (text self.old.environment self.old.spacing content.now)) }
+    {
+        match content.as_borrowed() {
+            Some(borrowed) => self.borrowed_text(borrowed),
+            None => self.owned_text(content.as_str()),
+        }
+    }
+
+    fn borrowed_text(&mut self, content: &'a str) -> Result<(), AllocError>
+        ensures { OnOk result (self.new ≡ laid self.old (text self.old.environment self.old.spacing content.entry.now)) }
+    {
+        let mut is_first = true;
+        for line in content.lines() {
+            self.text_line(is_first, CowStr::borrowed(line))?;
+            is_first = false;
+        }
+        Ok(())
+    }
+
+    fn owned_text(&mut self, content: &str) -> Result<(), AllocError>
+        ensures { OnOk result (self.new ≡ laid self.old (text self.old.environment self.old.spacing content.now)) }
+    {
+        let mut is_first = true;
+        for line in content.lines() {
+            let owned = String::from_str(self.alloc, line)?;
+            self.text_line(is_first, CowStr::owned(owned))?;
+            is_first = false;
+        }
+        Ok(())
+    }
+
+    fn text_line(&mut self, is_first: bool, line: CowStr<'a>) -> Result<(), AllocError>
+        ensures { OnOk result (self.new ≡ laid self.old (text_line is_first self.old.environment self.old.spacing line.entry)) }
+    {
+        self.begin_line(is_first)?;
+        self.put(Span::styled(line, self.environment.inline_style))
+    }
+
+    fn begin_line(&mut self, is_first: bool) -> Result<(), AllocError>
+        ensures { OnOk result (self.new ≡ laid self.old (begin_line is_first self.old.environment self.old.spacing)) }
+    {
+        if is_first { self.join() } else { self.open() }
+    }
+
+    fn soft_break(&mut self) -> Result<(), AllocError>
+        ensures { OnOk result (self.new ≡ laid self.old (soft_break self.old.spacing)) }
+    {
+        self.put(Span::raw(CowStr::borrowed(" ")))
+    }
+}

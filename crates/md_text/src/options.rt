@@ -1,0 +1,35 @@
+// The options of a rendering.
+ghost use Rattle.std.specs.Prelude.{◌≡◌};
+ghost use Rattle.md_text.specs.Options.{OptionsView};
+
+use crate::styles::{DefaultStyleSheet, StyleSheet};
+use std::marker::Model;
+
+/// How a tree is laid out: its style sheet.
+#[derive(Drop)]
+pub struct Options<S: StyleSheet> {
+    styles: S,
+}
+
+impl<S: StyleSheet> Model for Options<S> {
+    ghost use Rattle.md_text.specs.Options.{OptionsView};
+
+    ghost Value = { OptionsView S };
+
+    ghost view = { λ o. record { styles = o.styles } };
+}
+
+impl<S: StyleSheet> Options<S> {
+    /// Options with this style sheet; takes no memory.
+    pub fn new(styles: S) -> Options<S>
+        ensures { result ≡ record { styles = styles } }
+    {
+        Options { styles }
+    }
+}
+
+impl Default for Options<DefaultStyleSheet> {
+    fn default() -> Options<DefaultStyleSheet> {
+        Options::new(DefaultStyleSheet)
+    }
+}
