@@ -3,3 +3,5 @@ pub mod BufferLemmas
 pub mod CellLemmas
 pub mod StyleLemmas
 pub mod VisitedLemmas
+pub mod ShownLemmas
+pub mod BufferRowsLemmas

@@ -13,6 +13,8 @@ pub use Rattle.term_text.specs.Stack
 pub mod Rect
 pub mod Cells
 pub mod Buffers
+pub mod BufferRows
+pub mod BufferRowsIter
 pub mod Visited
 pub mod VisitedIter
 pub mod WidgetError

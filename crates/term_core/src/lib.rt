@@ -5,6 +5,7 @@
 #![tactic(auto)]
 
 mod buffer;
+mod buffer_rows;
 mod cell;
 mod rect;
 #[cfg(test)]
@@ -13,6 +14,7 @@ mod visited;
 mod widget;
 
 pub use buffer::Buffer;
+pub use buffer_rows::BufferRows;
 pub use cell::Cell;
 pub use rect::Rect;
 pub use term_text::{

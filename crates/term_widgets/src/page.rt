@@ -75,8 +75,11 @@ impl<'a> Page<'a> {
     }
 
     /// The number of columns.
+    ///
+    /// No visible grapheme of the page's lines is wider.
     pub fn width(&self) -> u16
-        ensures { result ≡ self.now.width }
+        ensures value { result ≡ self.now.width }
+        ensures fits { AllFit self.now.width self.now.lines }
     {
         self.width
     }
