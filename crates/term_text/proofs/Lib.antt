@@ -10,3 +10,4 @@ pub mod PlainWidths
 pub mod PlainLemmas
 pub mod PrintableLemmas
 pub mod StretchLemmas
+pub mod WidthLemmas

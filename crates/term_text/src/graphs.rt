@@ -1,9 +1,9 @@
 // The visible graphemes of a span.
-ghost use Rattle.std.specs.Prelude.{⊤, ◌≡◌, ◌≤◌, ◌<◌, ◌-◌, ◌^◌, min, [], ◌∷◌, true, false, drop, length};
+ghost use Rattle.std.specs.Prelude.{⊤, ◌≡◌, ◌≤◌, ◌<◌, ◌-◌, [], ◌∷◌, true, false, drop, length};
 ghost use Rattle.std.specs.Iterator.{YieldsFirstBy, item_count};
 ghost use Rattle.std.specs.List.{list_all};
 ghost use Rattle.unicode_segmentation.specs.Grapheme.{graphemes};
-ghost use Rattle.term_text.specs.Graph.{visible, pieces_of, columns};
+ghost use Rattle.term_text.specs.Graph.{visible, pieces_of};
 ghost use Rattle.term_text.specs.Plain.{is_printable};
 
 use crate::grapheme::Graph;
@@ -202,17 +202,5 @@ impl<'a> Span<'a> {
         ensures { graphs_left result ≡ visible self.now.style (pieces_of self.now) }
     {
         Graphemes::new(self, self.style())
-    }
-
-    /// The columns, or the greatest number.
-    pub fn width(&self) -> usize
-        ensures { result ≡ min (columns (visible self.now.style (pieces_of self.now))) (2 ^ 64 - 1) }
-    {
-        let mut sum = 0usize;
-        let mut rest = self.graphemes();
-        'graphs: while let Some(graph) = rest.next() {
-            sum = sum.saturating_add(graph.width);
-        }
-        sum
     }
 }

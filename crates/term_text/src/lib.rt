@@ -16,6 +16,7 @@ mod steps;
 mod style;
 mod text;
 mod walk;
+mod widths;
 
 pub use alignment::Alignment;
 pub use cow_str::CowStr;

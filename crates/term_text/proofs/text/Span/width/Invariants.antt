@@ -1,4 +1,4 @@
-use Rattle.std.proofs.Common.{◌≡◌, ◌≤◌, ◌+◌, ◌-◌, ◌^◌, min, length}
+use Rattle.std.proofs.Common.{◌≡◌, ◌+◌, ◌-◌, ◌^◌, ◌≤◌, min, length}
 use Rattle.term_text.specs.Graph.{columns, visible, pieces_of}
 use Rattle.term_text.specs.Iter.{graphs_left}
 use Rattle.term_text.proofs.text.Span.width.Given as goal
