@@ -1,2 +1,11 @@
+pub use Rattle.term_text.specs.LineEnds
+pub use Rattle.md_tree.specs.Tree
+pub use Rattle.md_tree.specs.Good
+pub use Rattle.md_tree.specs.Parse
+pub use Rattle.md_lines.specs.Blanks
+pub use Rattle.md_lines.specs.Lines
+pub use Rattle.md_inline.specs.Source
+pub use Rattle.md_inline.specs.Leaves
+pub use Rattle.md_inline.specs.Inlines
 pub mod Blocks
 pub mod Built

@@ -4,6 +4,8 @@ ghost use Rattle.std.specs.Prelude.{◌≡◌, ℕ, List, true};
 ghost use Rattle.md_tree.specs.Good.{good};
 ghost use Rattle.md_events.specs.Blocks.{tree};
 
+pub use md_tree::laws::{events_of_tree, same_events, tree_of_events};
+
 /// The tree of every text is good.
 pub fn tree_is_good()
     ensures { (text : List ℕ) → good (tree text) ≡ true }

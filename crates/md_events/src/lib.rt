@@ -11,3 +11,6 @@ pub use md_tree::{
     Alignments, Attrs, BlockQuoteKind, Classes, CodeBlockKind, Event, HeadingLevel, Tag, TagEnd, well_formed,
 };
 pub use reader::read;
+
+#[cfg(test)]
+mod tests;

@@ -4,3 +4,6 @@
 mod write;
 
 pub use write::write_inlines;
+
+#[cfg(test)]
+mod tests;
