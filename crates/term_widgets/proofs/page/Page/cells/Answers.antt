@@ -10,8 +10,9 @@ rows-init g c =
     let s = c.self.inside in
     let page = c.args.self.now in
     let is : rows_of s.width s.text ≡ page_rows page = ap (λ (p : PageView). page_rows p) c.self.view_is in
-    let rest : page_left c.pass.new.self ≡ drop c.args.scroll (page_rows page) =
-    c.pass.ensures ∙ ap (drop c.args.scroll) (c.new-rest.ensures ∙ ap (rows_of s.width) c.lines.ensures ∙ is) in
+    let text : rows_of s.width c.lines.result.now ≡ rows_of s.width s.text = ap (rows_of s.width) c.lines.ensures in
+    let whole : page_left c.new-rest.result ≡ page_rows page = cc in
+    let rest : page_left c.pass.new.self ≡ drop c.args.scroll (page_rows page) = c.pass.ensures ∙ ap (drop c.args.scroll) whole in
     Drawn-none s.width (page_rows page) c.args.scroll (page_left c.pass.new.self) c.in_ok-out.out.items
     (subst (Narrows s.width) is (narrows-rows_of s.width s.text c.self.invariant.0)) rest c.in_ok-out.ensures.items
 
