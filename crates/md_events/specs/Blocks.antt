@@ -32,7 +32,7 @@ abbrev pub paragraph : LineText → List LineText → Block
 paragraph line later =
     record {
       node = Element tag.Paragraph (inlines (map body_of (line ∷ take (paragraph_more later) later)));
-      more = paragraph_more later
+      more = paragraph_more later;
     }
 
 -- the block at a nonempty line, which later lines follow, by the first rule that holds

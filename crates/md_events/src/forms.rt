@@ -23,11 +23,17 @@ fn has_unbuilt_byte(bytes: &[u8]) -> bool
     bytes.iter().any(|b| is_unbuilt(*b))
 }
 
-/// Whether a byte begins a form that is not built.
+/// Whether a byte begins a form that is not built; most bytes are letters and spaces, which the first test tells.
 fn is_unbuilt(b: u8) -> bool
     ensures { result ≡ is_unbuilt b }
 {
-    b == b'\t' || b == b'\r' || b.is_ascii_digit() || b.is_ascii_punctuation() && !is_plain_punctuation(b)
+    if b.is_ascii_alphabetic() || b == b' ' {
+        return false;
+    }
+    b == b'\t'
+        || b == b'\r'
+        || b.is_ascii_digit()
+        || b.is_ascii_punctuation() && !is_plain_punctuation(b)
 }
 
 fn is_plain_punctuation(b: u8) -> bool

@@ -8,7 +8,8 @@ mod reader;
 
 pub use forms::built;
 pub use md_tree::{
-    Alignments, Attrs, BlockQuoteKind, Classes, CodeBlockKind, Event, HeadingLevel, Tag, TagEnd, well_formed,
+    Alignments, Attrs, BlockQuoteKind, Classes, CodeBlockKind, Event, HeadingLevel, Tag, TagEnd,
+    well_formed,
 };
 pub use reader::read;
 

@@ -29,8 +29,14 @@ fn shown(rt: &impl Abort, alloc: Global, text: &str) -> Result<String, Fail> {
 #[test]
 fn paragraphs_end_at_empty_lines(rt: HostRuntime) -> Result<(), Fail> {
     assert_eq!(rt; shown(&rt, rt.alloc(), "ab  \ncd")?.as_str(), "<(ab)|(cd)>");
-    assert_eq!(rt; shown(&rt, rt.alloc(), "ab \ncd  ")?.as_str(), "<(ab)/(cd)>");
-    assert_eq!(rt; shown(&rt, rt.alloc(), "\na\n  \n\n b\nc\n")?.as_str(), "<(a)><(b)/(c)>");
+    assert_eq!(rt;
+        shown(&rt, rt.alloc(), "ab \ncd  ")?.as_str(),
+        "<(ab)/(cd)>"
+    );
+    assert_eq!(rt;
+        shown(&rt, rt.alloc(), "\na\n  \n\n b\nc\n")?.as_str(),
+        "<(a)><(b)/(c)>"
+    );
     assert_eq!(rt; shown(&rt, rt.alloc(), "")?.as_str(), "");
     Ok(())
 }

@@ -30,7 +30,10 @@ fn two_blanks_at_the_end_of_a_line_break_it(rt: HostRuntime) -> Result<(), Fail>
     assert_eq!(rt; shown(rt.alloc(), "ab  \ncd")?.as_str(), "(ab)|(cd)");
     assert_eq!(rt; shown(rt.alloc(), "ab \ncd")?.as_str(), "(ab)/(cd)");
     assert_eq!(rt; shown(rt.alloc(), "ab\ncd")?.as_str(), "(ab)/(cd)");
-    assert_eq!(rt; shown(rt.alloc(), "a\t \n b  c\t\nd")?.as_str(), "(a)|(b  c)/(d)");
+    assert_eq!(rt;
+        shown(rt.alloc(), "a\t \n b  c\t\nd")?.as_str(),
+        "(a)|(b  c)/(d)"
+    );
     Ok(())
 }
 

@@ -13,8 +13,8 @@ returns-clause-written c =
     let lines : List LineText = c.args.lines.now in
     let count : ℕ = 1 + c.paragraph_more-count.result in
     let counted : count ≡ 1 + paragraph_more (drop 1 lines) =
-      ap (λ x. 1 + x) (c.paragraph_more-count.ensures.value ∙ ap paragraph_more (slice-rest 1 lines)) in
+    ap (λ x. 1 + x) (c.paragraph_more-count.ensures.value ∙ ap paragraph_more (slice-rest 1 lines)) in
     paragraph-written lines (take count lines) _ _ count c.requires counted refl
     (c.in_ok-push-2.ensures.items
-      ∙ ap (λ x. x ++ End end.Paragraph ∷ [])
-        (c.in_ok-write_inlines.ensures ∙ ap (λ x. x ++ events (inlines (map body_of (take count lines)))) c.in_ok-push.ensures.items))
+    ∙ ap (λ x. x ++ End end.Paragraph ∷ [])
+    (c.in_ok-write_inlines.ensures ∙ ap (λ x. x ++ events (inlines (map body_of (take count lines)))) c.in_ok-push.ensures.items))
