@@ -2,7 +2,7 @@
 ghost use Rattle.std.specs.Prelude.{◌≡◌};
 ghost use Rattle.md_text.specs.Environment.{first_environment, first_spacing, environment_inside};
 
-use md_tree::Tag;
+use md_events::Tag;
 use term_text::Style;
 
 /// What is handed down into elements, and never comes back from them.

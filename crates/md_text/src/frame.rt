@@ -3,7 +3,7 @@ ghost use Rattle.std.specs.Prelude.{◌≡◌};
 ghost use Rattle.md_text.specs.State.{tail_of};
 
 use crate::environment::Environment;
-use md_tree::Tag;
+use md_events::Tag;
 
 /// What is left to do at an element's end.
 #[derive(Clone, Copy)]

@@ -10,8 +10,11 @@ mod machine;
 mod options;
 mod render;
 mod styles;
+#[cfg(test)]
+mod tests;
 
 pub use error::RenderError;
 pub use highlight::{AnsiFence, Highlighter, NoHighlight};
 pub use options::Options;
+pub use render::{from_str, from_str_with_options};
 pub use styles::{DefaultStyleSheet, StyleSheet};

@@ -29,6 +29,8 @@ impl<S: StyleSheet> Options<S> {
 }
 
 impl Default for Options<DefaultStyleSheet> {
+    ghost is_default = { λ o. o ≡ record { styles = record {} } };
+
     fn default() -> Options<DefaultStyleSheet> {
         Options::new(DefaultStyleSheet)
     }

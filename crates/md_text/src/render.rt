@@ -1,11 +1,47 @@
-// From events to lines.
-ghost use Rattle.std.specs.Prelude.{◌≡◌, IfOk};
+// From texts and events to lines.
+ghost use Rattle.std.specs.Prelude.{◌≡◌, IsTrue, IfOk, IfErr};
+ghost use Rattle.md_events.specs.Built.{built};
+ghost use Rattle.md_events.specs.Blocks.{tree};
+ghost use Rattle.md_text.specs.Layout.{document_lines};
 ghost use Rattle.md_text.specs.State.{run, first_state};
 
+use crate::error::RenderError;
+use crate::highlight::{Highlighter, NoHighlight};
 use crate::machine::Machine;
-use md_tree::Event;
+use crate::options::Options;
+use crate::styles::StyleSheet;
+use md_events::{Event, read};
 use std::alloc::{AllocError, Global};
 use term_text::Text;
+
+/// The lines that the tree of a Markdown text lays out, with the defaults and no highlighter.
+///
+/// The only refusal is `Memory`.
+pub fn from_str<'a>(alloc: Global, input: &'a str) -> Result<Text<'a>, RenderError>
+    requires { IsTrue (built input.now) }
+    ensures lines { IfOk result (λ text. text ≡ document_lines (tree input.now)) }
+    ensures memory { IfErr result (λ e. e ≡ RenderError.Memory) }
+{
+    from_str_with_options(alloc, input, &Options::default(), &NoHighlight)
+}
+
+/// The lines that the tree of a Markdown text lays out, with these options and this highlighter.
+///
+/// The forms that are built so far ask nothing of either. The only refusal is `Memory`.
+pub fn from_str_with_options<'a, S: StyleSheet, H: Highlighter>(
+    alloc: Global,
+    input: &'a str,
+    options: &Options<S>,
+    highlighter: &H,
+) -> Result<Text<'a>, RenderError>
+    requires { IsTrue (built input.now) }
+    ensures lines { IfOk result (λ text. text ≡ document_lines (tree input.now)) }
+    ensures memory { IfErr result (λ e. e ≡ RenderError.Memory) }
+{
+    let events = read(alloc, input)?;
+    let text = laid_out(alloc, events.as_slice())?;
+    Ok(text)
+}
 
 /// The lines that the events lay out.
 fn laid_out<'a>(alloc: Global, events: &[Event<'a>]) -> Result<Text<'a>, AllocError>

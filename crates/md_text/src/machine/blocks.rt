@@ -6,7 +6,7 @@ ghost use Rattle.md_text.specs.State.{laid, finished};
 use super::Machine;
 use crate::environment::Fresh;
 use crate::frame::Tail;
-use md_tree::Tag;
+use md_events::Tag;
 use std::alloc::AllocError;
 
 impl<'a> Machine<'a> {

@@ -4,7 +4,7 @@ ghost use Rattle.md_text.specs.Inlines.{begin_line, text_line, text, soft_break,
 ghost use Rattle.md_text.specs.State.{laid};
 
 use super::Machine;
-use md_tree::Event;
+use md_events::Event;
 use std::alloc::AllocError;
 use term_text::{CowStr, Span};
 

@@ -4,7 +4,7 @@ ghost use Rattle.md_text.specs.State.{started, ended, step, run};
 
 use super::Machine;
 use crate::frame::{Frame, Tail};
-use md_tree::{Event, Tag};
+use md_events::{Event, Tag};
 use std::alloc::AllocError;
 
 impl<'a> Machine<'a> {
