@@ -1,23 +1,10 @@
 // What a page asks of the lines of its text.
-ghost use Rattle.std.specs.Prelude.{◌≡◌, ◌^◌, ◌≤◌, ◌↔◌, length, IsTrue, IfOk, OnOk, IsErrOf, MatchOption};
+ghost use Rattle.std.specs.Prelude.{◌≡◌, ◌^◌, ◌≤◌, length, IsTrue, IfOk, OnOk, IsErrOf, MatchOption};
 ghost use Rattle.term_core.specs.Graph.{graphs};
 ghost use Rattle.term_core.specs.Wrap.{NoneWider, wrap};
 ghost use Rattle.term_widgets.specs.Page.{AllFit, any_wider, rows_of};
 
 use term_core::{Cutter, Line, NoSteps, Steps, WidgetError};
-
-/// Whether no visible grapheme of the line is wider than the page.
-fn fits(line: &Line, width: usize) -> bool
-    ensures { IsTrue result ↔ NoneWider width (graphs line.now) }
-{
-    let mut rest = line.graphemes();
-    'graphs: while let Some(graph) = rest.next() {
-        if graph.width > width {
-            return false;
-        }
-    }
-    true
-}
 
 /// The number of rows of the line, if `usize` counts them.
 fn row_count(line: &Line, width: usize) -> Option<usize>
@@ -46,7 +33,7 @@ pub(crate) fn count_rows(lines: &[Line], width: usize) -> Result<usize, WidgetEr
 {
     let mut rows = 0usize;
     for line in lines {
-        if !fits(line, width) {
+        if !line.fits(width) {
             return Err(WidgetError::TooNarrow);
         }
         let Some(count) = row_count(line, width) else {
