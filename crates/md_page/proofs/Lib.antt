@@ -1,1 +1,4 @@
 pub mod Transfers
+pub mod Showing
+pub mod Endings
+pub mod Headline

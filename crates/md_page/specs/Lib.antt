@@ -2,3 +2,5 @@ pub mod Status
 pub mod Reading
 pub mod Writing
 pub mod Ran
+pub mod ViewError
+pub mod Shown
