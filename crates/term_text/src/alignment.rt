@@ -1,6 +1,6 @@
 // The sides that a table's column keeps to.
 
-/// Where the cells of a table's column stand in it.
+/// To which side the cells of a table's column keep, if the table says so.
 #[derive(Clone, Copy, Debug, PartialEq, Eq)]
 pub enum Alignment {
     None,

@@ -12,7 +12,8 @@ use crate::steps::{Ledger, Steps};
 use crate::text::Line;
 use crate::walk::cut_at;
 
-/// Cuts a line into rows.
+/// Cuts a line into rows of a width: a row that can't take all that is left ends before the last blank that it has or that
+/// comes next, else where no more fits, and the blanks that would begin the next row go.
 #[derive(Drop)]
 pub struct Cutter<'t, 'a> {
     graphs: LineGraphemes<'t, 'a>,
@@ -24,6 +25,7 @@ pub struct Cutter<'t, 'a> {
 impl<'t, 'a> Cutter<'t, 'a> {
     ghost use Rattle.term_text.specs.Rows.{rows_left, row_graphs};
 
+    /// The rows of the line, of at most so many columns. Each visible grapheme must fit a row ([`Line::fits`]).
     pub fn new(line: &'t Line<'a>, width: usize) -> Cutter<'t, 'a>
         requires { NoneWider width (graphs line.now) }
         ensures { rows_left result ≡ wrap width (graphs line.now) }
@@ -35,6 +37,7 @@ impl<'t, 'a> Cutter<'t, 'a> {
         }
     }
 
+    /// The next row, with one step noted; `None` exactly after the last, with none noted. A line has one row at least.
     pub fn next_row<L: Ledger>(&mut self, steps: &mut Steps<L>) -> Option<Row<'t, 'a>>
         ensures row { YieldsFirstBy row_graphs rows_left self.old result self.new }
         ensures ticks { L.noted (if is_some result then 1 else 0) steps.old steps.new }
@@ -56,7 +59,7 @@ impl<'t, 'a> Cutter<'t, 'a> {
     }
 }
 
-/// A row of a line.
+/// A row of a line, a stretch of its visible graphemes.
 #[derive(Drop)]
 pub struct Row<'t, 'a> {
     graphs: LineGraphemes<'t, 'a>,
@@ -66,6 +69,7 @@ pub struct Row<'t, 'a> {
 impl<'t, 'a> Row<'t, 'a> {
     ghost use Rattle.term_text.specs.Rows.{row_graphs, row_left};
 
+    /// The graphemes of the row, each in its span's style over the line's.
     pub fn graphemes(&self) -> RowGraphemes<'t, 'a>
         ensures { row_left result ≡ row_graphs self.now }
     {

@@ -197,7 +197,8 @@ impl<'a> Iterator for Graphemes<'a> {
 impl<'a> Span<'a> {
     ghost use Rattle.term_text.specs.Iter.{graphs_left};
 
-    /// The visible graphemes.
+    /// The visible graphemes: a glyph is one, and else the text is cut into extended grapheme clusters (UAX #29), of which
+    /// those are visible that have no control character and at least one column.
     pub fn graphemes(&self) -> Graphemes<'_>
         ensures { graphs_left result ≡ visible self.now.style (pieces_of self.now) }
     {

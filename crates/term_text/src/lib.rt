@@ -14,6 +14,8 @@ mod printable;
 mod stack;
 mod steps;
 mod style;
+#[cfg(test)]
+mod tests;
 mod text;
 mod walk;
 mod widths;

@@ -31,7 +31,7 @@ pub fn end_length(rest: &[u8]) -> usize
     }
 }
 
-/// The first line of the bytes, and what stands after its end.
+/// The first line of the bytes, and what stands after its end. An end that closes the bytes leaves nothing.
 pub fn next_line_of_bytes<'a>(bytes: &'a [u8]) -> (&'a [u8], &'a [u8])
     requires { 0 < length bytes.now }
     ensures lines { raw_lines bytes.now ≡ result.0.now ∷ raw_lines result.1.now }
@@ -43,7 +43,7 @@ pub fn next_line_of_bytes<'a>(bytes: &'a [u8]) -> (&'a [u8], &'a [u8])
     (line, &rest[end_length(rest)..])
 }
 
-/// The first line of the text, and what stands after its end.
+/// The first line of the text, and what stands after its end. An end that closes the text leaves nothing.
 pub fn next_line<'a>(text: &'a str) -> (&'a str, &'a str)
     requires { 0 < length text.now }
     ensures lines { raw_lines text.now ≡ result.0.now ∷ raw_lines result.1.now }

@@ -174,7 +174,7 @@ impl<'t, 'a> Iterator for LineGraphemes<'t, 'a> {
 }
 
 impl<'a> Line<'a> {
-    /// The visible graphemes.
+    /// The visible graphemes of its spans, each in its span's style over the line's.
     pub fn graphemes(&self) -> LineGraphemes<'_, 'a>
         ensures { line_left result ≡ graphs self.now }
     {

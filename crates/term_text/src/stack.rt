@@ -1,3 +1,4 @@
+// Stacks.
 ghost use Rattle.std.specs.Prelude.{◌≡◌, List, [], ◌∷◌, OnOk, OnErr, IfSome, IfNone, MatchOption};
 ghost use Rattle.term_text.specs.Stack.{is_empty};
 
@@ -19,6 +20,7 @@ impl<T> Model for Stack<T> {
 }
 
 impl<T> Stack<T> {
+    /// No items. It takes no memory.
     pub fn new(alloc: Global) -> Stack<T>
         ensures { result ≡ [] }
     {
@@ -27,6 +29,7 @@ impl<T> Stack<T> {
         }
     }
 
+    /// Puts an item on top. After want of memory the stack is as before.
     pub fn push(&mut self, item: T) -> Result<(), AllocError>
     where
         T: Drop,
@@ -37,12 +40,14 @@ impl<T> Stack<T> {
         Ok(())
     }
 
+    /// Takes the top item off, if there is one.
     pub fn pop(&mut self) -> Option<T>
         ensures { MatchOption result ((self.old ≡ []) × (self.new ≡ [])) (λ x. self.old ≡ x ∷ self.new) }
     {
         self.items.pop()
     }
 
+    /// Whether there is no item.
     pub fn is_empty(&self) -> bool
         ensures { result ≡ is_empty self.now }
     {

@@ -4,6 +4,7 @@ ghost use Rattle.term_text.specs.Style.{patch, no_style, reset_style, with_modif
 
 use bitflags::{Flag, Flags, bitflag_items};
 
+/// A colour of a terminal: its own (`Reset`), one of sixteen, one by red, green and blue, or one of 256 by its number.
 #[derive(Clone, Copy, Debug, PartialEq, Eq, Default)]
 pub enum Color {
     #[default]
@@ -28,7 +29,7 @@ pub enum Color {
     Indexed(u8),
 }
 
-/// A set of modifiers.
+/// A set of the nine modifiers of a terminal.
 #[derive(Clone, Copy, Debug, PartialEq, Eq, Default)]
 pub struct Modifier(u16);
 
@@ -70,7 +71,7 @@ impl Flags for Modifier {
     }
 }
 
-/// What a style sets.
+/// What a style sets: two colours, where they are set, and the modifiers that it adds and takes away.
 #[derive(Clone, Copy, Debug, PartialEq, Eq, Default)]
 pub struct Style {
     pub fg: Option<Color>,
@@ -92,6 +93,7 @@ impl Style {
         }
     }
 
+    /// Sets both colours to the terminal's own, and takes all modifiers away.
     pub fn reset() -> Style
         ensures { result ≡ reset_style }
     {
@@ -103,6 +105,7 @@ impl Style {
         }
     }
 
+    /// Sets the foreground.
     pub fn fg(self, color: Color) -> Style
         ensures { result ≡ record self { fg = Some color } }
     {
@@ -112,6 +115,7 @@ impl Style {
         }
     }
 
+    /// Sets the background.
     pub fn bg(self, color: Color) -> Style
         ensures { result ≡ record self { bg = Some color } }
     {
@@ -121,6 +125,7 @@ impl Style {
         }
     }
 
+    /// Adds the modifiers, and no longer takes them away.
     pub fn add_modifier(self, modifier: Modifier) -> Style
         ensures { result ≡ with_modifier self modifier }
     {
@@ -131,6 +136,7 @@ impl Style {
         }
     }
 
+    /// Takes the modifiers away, and no longer adds them.
     pub fn remove_modifier(self, modifier: Modifier) -> Style
         ensures { result ≡ without_modifier self modifier }
     {
@@ -141,6 +147,7 @@ impl Style {
         }
     }
 
+    /// This style with the other over it: what the other sets wins.
     pub fn patch(self, other: Style) -> Style
         ensures { result ≡ patch self other }
     {

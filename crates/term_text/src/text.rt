@@ -124,7 +124,7 @@ impl<'a> Span<'a> {
     }
 }
 
-/// Spans over one style.
+/// Spans, none of them empty, over one style.
 #[derive(Drop)]
 pub struct Line<'a> {
     spans: Vec<Span<'a>>,
@@ -140,6 +140,7 @@ impl<'a> Model for Line<'a> {
 }
 
 impl<'a> Line<'a> {
+    /// No spans, in no style. It takes no memory.
     pub fn new(alloc: Global) -> Line<'a>
         ensures { result ≡ record { spans = []; style = no_style } }
     {
@@ -149,7 +150,7 @@ impl<'a> Line<'a> {
         }
     }
 
-    /// A raw span for each line of the text that has a byte.
+    /// A span in no style for each line of the text, by std's `lines`, that is not empty; or want of memory.
     pub fn from_text(alloc: Global, text: &'a str) -> Result<Line<'a>, AllocError>
         ensures { IfOk result (λ line. line ≡ record { spans = raw_spans (lines text.now); style = no_style }) }
     {
@@ -160,6 +161,7 @@ impl<'a> Line<'a> {
         Ok(line)
     }
 
+    /// Adds a span at the end, and nothing for an empty one. After want of memory the line is as before.
     pub fn push_span(&mut self, span: Span<'a>) -> Result<(), AllocError>
         ensures ok { OnOk result (self.new
             ≡ record self.old { spans = if length span.entry.text == 0 then self.old.spans else self.old.spans ++ span.entry ∷ [] }) }
@@ -172,18 +174,21 @@ impl<'a> Line<'a> {
         Ok(())
     }
 
+    /// Sets the style under the spans.
     pub fn set_style(&mut self, style: Style)
         ensures { self.new ≡ record self.old { style = style } }
     {
         self.style = style;
     }
 
+    /// The style under the spans.
     pub fn style(&self) -> Style
         ensures { result ≡ self.now.style }
     {
         self.style
     }
 
+    /// The spans.
     pub fn spans(&self) -> &[Span<'a>]
         ensures { result.now ≡ self.now.spans }
     {
@@ -191,7 +196,7 @@ impl<'a> Line<'a> {
     }
 }
 
-/// Lines.
+/// Lines, one below the other.
 #[derive(Drop)]
 pub struct Text<'a> {
     lines: Vec<Line<'a>>,
@@ -207,6 +212,7 @@ impl<'a> Model for Text<'a> {
 }
 
 impl<'a> Text<'a> {
+    /// No lines. It takes no memory.
     pub fn new(alloc: Global) -> Text<'a>
         ensures { result ≡ [] }
     {
@@ -215,6 +221,7 @@ impl<'a> Text<'a> {
         }
     }
 
+    /// Adds a line at the end. After want of memory the text is as before.
     pub fn push_line(&mut self, line: Line<'a>) -> Result<(), AllocError>
         ensures ok { OnOk result (self.new ≡ self.old ++ line.entry ∷ []) }
         ensures err { OnErr result (self.new ≡ self.old) }
@@ -223,6 +230,7 @@ impl<'a> Text<'a> {
         Ok(())
     }
 
+    /// The lines.
     pub fn lines(&self) -> &[Line<'a>]
         ensures { result.now ≡ self.now }
     {
