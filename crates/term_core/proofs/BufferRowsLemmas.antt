@@ -1,12 +1,11 @@
 -- The cells of a buffer as rows, and what they are after a drawing on all of it.
-use Rattle.std.proofs.Common.{◌≡◌, ◌≢◌, ℕ, zero, suc, ◌+◌, ◌-◌, ◌*◌, ◌/◌, ◌%◌, ◌<◌, ◌≤◌, true, false, cond, List, [], ◌∷◌, ◌++◌, length, take, drop, Some, None, refl, sym, ap, ap₂, ◌∙◌, arith, length-append}
+use Rattle.std.proofs.Common.{◌≡◌, ◌≢◌, ℕ, zero, suc, ◌+◌, ◌-◌, ◌*◌, ◌/◌, ◌%◌, ◌<◌, true, cond, List, [], ◌∷◌, ◌++◌, length, take, drop, Some, None, refl, sym, ap, ap₂, ◌∙◌, arith, length-append}
 use Rattle.std.specs.Prelude.{slice_get, unwrap_or}
 use Rattle.std.proofs.Math.Seq.{take-append_seam, drop-append_seam}
 use Rattle.std.proofs.lemmas.List.{drop-drop}
 use Rattle.std.proofs.lemmas.Nat.{mod_below, div_below}
 use Rattle.term_text.specs.Graph.{Grapheme}
 use Rattle.term_text.specs.Lists.{joined}
-use Rattle.term_core.specs.declared.rect.Rect.{Rect}
 use Rattle.term_core.specs.Rect.{has_place, place_of}
 use Rattle.term_core.specs.Cells.{CellView, cells, view}
 use Rattle.term_core.specs.Buffers.{BufferView, cell_at}

@@ -1,5 +1,5 @@
 -- A row has as many cells as columns.
-use Rattle.std.proofs.Common.{◌≡◌, ℕ, ◌+◌, ◌-◌, ◌≤◌, List, [], ◌∷◌, length, replicate, refl, arith, length-append}
+use Rattle.std.proofs.Common.{◌≡◌, ℕ, ◌-◌, ◌≤◌, List, [], ◌∷◌, length, replicate, refl, arith, length-append}
 use Rattle.std.proofs.lemmas.List.{length-replicate}
 use Rattle.term_text.specs.Graph.{Grapheme, columns}
 use Rattle.term_text.proofs.CutLemmas.{AllShown}

@@ -1,12 +1,12 @@
 -- A buffer after a page is drawn on all of it.
-use Rattle.std.proofs.Common.{◌≡◌, ℕ, zero, suc, ◌+◌, ◌-◌, ◌*◌, ◌<◌, ◌≤◌, Bool, true, cond, ◌&&◌, List, [], ◌∷◌, ◌++◌, length, refl, sym, ap, ap₂, subst, ◌∙◌, arith}
-use Rattle.std.specs.Prelude.{slice_get, unwrap_or, min, max}
+use Rattle.std.proofs.Common.{◌≡◌, ℕ, zero, suc, ◌+◌, ◌-◌, ◌*◌, ◌<◌, true, cond, ◌&&◌, List, [], ◌∷◌, ◌++◌, length, refl, sym, ap, ap₂, subst, ◌∙◌, arith}
+use Rattle.std.specs.Prelude.{slice_get, max}
 use Rattle.term_core.specs.declared.rect.Rect.{Rect}
 use Rattle.term_core.specs.Rect.{has_place, place_of, intersection, common_length}
 use Rattle.term_core.specs.Buffers.{BufferView, cell_at}
-use Rattle.term_core.specs.BufferRows.{buffer_rows, cell_rows}
-use Rattle.term_core.specs.Cells.{CellView, cells, view}
-use Rattle.term_core.specs.Graph.{Grapheme, graphs, columns}
+use Rattle.term_core.specs.BufferRows.{buffer_rows}
+use Rattle.term_core.specs.Cells.{view}
+use Rattle.term_core.specs.Graph.{Grapheme, graphs}
 use Rattle.term_core.specs.Lists.{joined}
 use Rattle.term_core.specs.Text.{LineView}
 use Rattle.term_core.specs.Wrap.{wrap}
@@ -14,7 +14,6 @@ use Rattle.term_core.proofs.BufferRowsLemmas.{RowsTake, buffer_rows-view, cell_r
 use Rattle.term_core.proofs.CellLemmas.{length-cells}
 use Rattle.term_core.proofs.RectLemmas.{has_place-intersection}
 use Rattle.term_core.proofs.ShownLemmas.{RowsShown, RowsShown-wrap, AllShown-graphs}
-use Rattle.term_text.proofs.CutLemmas.{AllShown}
 use Rattle.term_widgets.specs.Page.{PageView, page_rows, rows_of, AllFit}
 use Rattle.term_widgets.proofs.RowLemmas.{Narrows, narrows-rows_of}
 
@@ -75,7 +74,7 @@ shown_rows : (page : PageView) (old new : BufferView) (scroll : ℕ) → AllFit 
     → (0 < new.area.height → page.width ≡ new.area.width)
     → ((x y : ℕ) → cell_at new x y ≡ cond (has_place (intersection new.area new.area) x y)
     (slice_get (joined (view (page_rows page) (intersection new.area new.area).width (intersection new.area new.area).height scroll))
-        (place_of (intersection new.area new.area) x y)) (cell_at old x y))
+    (place_of (intersection new.area new.area) x y)) (cell_at old x y))
     → buffer_rows new ≡ view (page_rows page) new.area.width new.area.height scroll
 shown_rows page old new scroll fits full wide drawn = go new.area.height refl
   where
@@ -91,10 +90,10 @@ pub buffer_rows-drawn : (page : PageView) (area : Rect) (old new : BufferView) (
     → length new.cells ≡ new.area.height * new.area.width → area ≡ old.area → new.area ≡ old.area → (0 < new.area.height → page.width ≡ new.area.width)
     → ((x y : ℕ) → cell_at new x y ≡ cond (has_place (intersection area old.area) x y)
     (slice_get (joined (view (page_rows page) (intersection area old.area).width (intersection area old.area).height scroll))
-        (place_of (intersection area old.area) x y)) (cell_at old x y))
+    (place_of (intersection area old.area) x y)) (cell_at old x y))
     → buffer_rows new ≡ view (page_rows page) new.area.width new.area.height scroll
 buffer_rows-drawn page area old new scroll fits full same kept wide drawn =
     shown_rows page old new scroll fits full wide
     (λ x y. drawn x y ∙ ap₂ (λ r s. cond (has_place (intersection r s) x y)
-        (slice_get (joined (view (page_rows page) (intersection r s).width (intersection r s).height scroll)) (place_of (intersection r s) x y))
-        (cell_at old x y)) (same ∙ sym kept) (sym kept))
+    (slice_get (joined (view (page_rows page) (intersection r s).width (intersection r s).height scroll)) (place_of (intersection r s) x y))
+    (cell_at old x y)) (same ∙ sym kept) (sym kept))

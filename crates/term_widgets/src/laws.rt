@@ -7,9 +7,7 @@ ghost use Rattle.term_core.specs.Text.{LineView};
 ghost use Rattle.term_core.specs.Wrap.{AllNarrow, Thinned};
 ghost use Rattle.term_widgets.specs.Page.{AllFit, rows_of};
 
-pub use term_core::laws::{
-    rows_are_narrow, rows_are_the_graphemes_without_blanks, wrap_unfolds,
-};
+pub use term_core::laws::{rows_are_narrow, rows_are_the_graphemes_without_blanks, wrap_unfolds};
 
 /// Two views of the same rows agree on each row that both show.
 pub fn views_agree()

@@ -69,7 +69,12 @@ fn an_area_is_cut_to_the_buffer(rt: HostRuntime) -> Result<(), Fail> {
 #[test]
 fn a_grapheme_wider_than_the_page(rt: HostRuntime) -> Result<(), Fail> {
     let alloc = rt.alloc();
-    assert!(rt; matches!(page_of(alloc, ["a", "漢"].as_slice(), 1), Err(WidgetError::TooNarrow)));
+    assert!(rt;
+        matches!(
+            page_of(alloc, ["a", "漢"].as_slice(), 1),
+            Err(WidgetError::TooNarrow)
+        )
+    );
     assert_eq!(rt; page_of(alloc, ["\t", ""].as_slice(), 0)?.len(), 2);
     let empty = Page::empty(alloc);
     assert_eq!(rt; (empty.len(), empty.lines(), empty.width()), (0, 0, 0));

@@ -1,8 +1,8 @@
-use Rattle.std.proofs.Common.{◌≡◌, ◌++◌, ◌+◌, ◌^◌, ◌<◌, ◌≤◌, length, take, false, refl, ap, sym, ◌∙◌, arith, length-append}
+use Rattle.std.proofs.Common.{◌≡◌, ◌+◌, ◌^◌, ◌<◌, ◌≤◌, length, take, false, refl, ap, sym, arith, length-append}
 use Rattle.std.specs.Prelude.{IsTrue}
 use Rattle.term_core.specs.Graph.{graphs}
-use Rattle.term_core.specs.Wrap.{wrap, NoneWider}
-use Rattle.term_widgets.specs.Page.{rows_of, any_wider}
+use Rattle.term_core.specs.Wrap.{wrap}
+use Rattle.term_widgets.specs.Page.{rows_of}
 use Rattle.term_widgets.proofs.LineLemmas.{AllFit-none, rows_of-none, AllFit-more, rows_of-more, any_wider-at, rows_of-least}
 use Rattle.term_widgets.proofs.lines.count_rows.Goals as goal
 

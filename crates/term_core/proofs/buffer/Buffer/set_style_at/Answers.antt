@@ -1,7 +1,7 @@
-use Rattle.std.proofs.Common.{get_or, ◌==◌, ◌&&◌, cond, Some, ap, ◌∙◌}
+use Rattle.std.proofs.Common.{get_or, ◌==◌, ◌&&◌, cond, ap, ◌∙◌}
 use Rattle.std.specs.Prelude.{option_map}
 use Rattle.std.proofs.Math.ListN.{set}
-use Rattle.term_core.specs.Rect.{has_place, place_of}
+use Rattle.term_core.specs.Rect.{has_place}
 use Rattle.term_core.specs.Cells.{CellView, with_style}
 use Rattle.term_core.specs.Buffers.{BufferView, cell_at}
 use Rattle.term_core.proofs.BufferLemmas.{cell_at-set}

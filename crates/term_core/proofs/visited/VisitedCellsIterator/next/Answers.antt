@@ -1,4 +1,4 @@
-use Rattle.std.proofs.Common.{◌≡◌, ◌+◌, ◌-◌, ◌^◌, ◌∷◌, length, ap, ap₂, ◌∙◌, rules, arith}
+use Rattle.std.proofs.Common.{◌≡◌, ◌+◌, ◌-◌, ◌^◌, length, ap, ◌∙◌, rules, arith}
 use Rattle.std.specs.Prelude.{min, max}
 use Rattle.term_text.specs.Graph.{width_of}
 use Rattle.term_core.specs.VisitedIter.{visited_left}

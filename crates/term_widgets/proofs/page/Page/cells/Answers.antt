@@ -1,8 +1,7 @@
-use Rattle.std.proofs.Common.{◌≡◌, ◌+◌, ◌*◌, drop, length, ap, sym, subst, ◌∙◌, arith}
-use Rattle.term_widgets.specs.Page.{PageView, page_rows, rows_of, AllFit}
+use Rattle.std.proofs.Common.{◌≡◌, drop, ap, subst, ◌∙◌}
+use Rattle.term_widgets.specs.Page.{PageView, page_rows, rows_of}
 use Rattle.term_widgets.specs.PageRows.{page_left}
-use Rattle.term_widgets.proofs.LineLemmas.{AllFit-none}
-use Rattle.term_widgets.proofs.RowLemmas.{Drawn, Drawn-none, Drawn-more, Narrows, narrows-rows_of}
+use Rattle.term_widgets.proofs.RowLemmas.{Drawn-none, Drawn-more, Narrows, narrows-rows_of}
 use Rattle.term_widgets.proofs.page.Page.cells.Goals as goal
 
 pub rows-init : goal.rows-init

@@ -1,6 +1,3 @@
-use Rattle.std.proofs.Common.{◌≡◌, ◌+◌, ◌*◌, drop, length}
-use Rattle.term_core.specs.Cells.{view}
-use Rattle.term_core.specs.Lists.{joined}
 use Rattle.term_widgets.specs.Page.{page_rows}
 use Rattle.term_widgets.specs.PageRows.{page_left}
 use Rattle.term_widgets.proofs.RowLemmas.{Drawn}

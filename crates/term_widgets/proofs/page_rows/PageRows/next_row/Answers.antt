@@ -1,7 +1,7 @@
 use Rattle.std.proofs.Common.{◌≡◌, ◌++◌, [], ap, ap₂, sym, ◌∙◌}
 use Rattle.std.proofs.lemmas.List.{drop_all}
 use Rattle.term_widgets.specs.Page.{rows_of}
-use Rattle.term_widgets.specs.PageRows.{line_rows, later_rows, page_left}
+use Rattle.term_widgets.specs.PageRows.{later_rows, page_left}
 use Rattle.term_widgets.proofs.LineLemmas.{rows_of-none}
 use Rattle.term_widgets.proofs.page_rows.PageRows.next_row.Goals as goal
 
