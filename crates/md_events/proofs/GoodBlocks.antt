@@ -1,12 +1,12 @@
 -- The blocks of lines are good.
-use Rattle.std.proofs.Common.{List, [], ◌∷◌, ◌≡◌, ℕ, zero, suc, refl, Bool, true, false, cond, ◌&&◌, map, take}
+use Rattle.std.proofs.Common.{List, [], ◌∷◌, ◌≡◌, ℕ, zero, suc, refl, true, false, cond, ◌&&◌, map, take}
 use Rattle.md_lines.specs.Lines.{LineText, body_of, is_empty}
-use Rattle.md_tree.specs.Tree.{Nodes, Empty}
+use Rattle.md_tree.specs.Tree.{Nodes}
 use Rattle.md_tree.specs.Good.{good_at, document_place, level_of}
 use Rattle.md_tree.specs.declared.place.Holds.TheVariants as level
 use Rattle.md_inline.specs.Inlines.{inlines}
 use Rattle.md_inline.proofs.GoodInlines.{inlines-good}
-use Rattle.md_events.specs.Blocks.{Block, block, blocks_after, node_then, paragraph_more}
+use Rattle.md_events.specs.Blocks.{block, blocks_after, node_then, paragraph_more}
 
 -- a paragraph before good blocks
 paragraph-good : (bodies : List (List ℕ)) (rest : Nodes) → good_at document_place rest ≡ true → (good_at (level_of level.Inlines) (inlines bodies) && good_at document_place rest) ≡ true

@@ -1,5 +1,5 @@
 -- Blocks after the first lines, and what the writers of blocks keep.
-use Rattle.std.proofs.Common.{List, [], ◌∷◌, ◌++◌, length, drop, take, get_or, ◌≡◌, ◌≤◌, ◌<◌, ◌+◌, ◌-◌, ℕ, zero, suc, refl, sym, ap, ◌∙◌, arith, Bool, true, false, append_assoc, length-drop, map, take_all, append-nil, zero-add}
+use Rattle.std.proofs.Common.{List, [], ◌∷◌, ◌++◌, length, drop, take, get_or, ◌≡◌, ◌≤◌, ◌<◌, ◌+◌, ◌-◌, ℕ, zero, suc, refl, sym, ap, ◌∙◌, arith, true, false, append_assoc, length-drop, map, take_all, append-nil, zero-add}
 use Rattle.std.proofs.lemmas.List.{drop_more}
 use Rattle.std.proofs.Math.ListN.{drop_of_length-le}
 use Rattle.std.proofs.Math.Seq.{drop-nil}
@@ -8,11 +8,11 @@ use Rattle.md_tree.specs.declared.event.Event.{Event}
 use Rattle.md_tree.specs.declared.event.Event.TheVariants.{Start, End}
 use Rattle.md_tree.specs.declared.event.Tag.TheVariants.{Paragraph}
 use Rattle.md_tree.specs.declared.event.TagEnd.TheVariants as end
-use Rattle.md_tree.specs.Tree.{Nodes, Empty, Leaf, Branch, events, events_then}
+use Rattle.md_tree.specs.Tree.{Nodes, Empty, Branch, events, events_then}
 use Rattle.md_tree.proofs.Nodes.{events_then-events}
 use Rattle.md_lines.specs.Lines.{LineText, body_of, is_empty}
 use Rattle.md_inline.specs.Inlines.{inlines}
-use Rattle.md_events.specs.Blocks.{Node, Single, Element, node_then, Block, block, first_block, blocks_after, blocks, paragraph_more}
+use Rattle.md_events.specs.Blocks.{Node, Single, Element, node_then, block, first_block, blocks_after, blocks, paragraph_more}
 
 -- an empty line is passed over
 pub blocks-empty : (line : LineText) (later : List LineText) → is_empty line ≡ true → blocks (line ∷ later) ≡ blocks later

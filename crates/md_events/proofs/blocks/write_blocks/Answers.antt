@@ -1,5 +1,5 @@
 use Rattle.std.proofs.Common.{ap, ◌∙◌, arith, sym}
-use Rattle.md_lines.specs.Lines.{LineText, is_empty}
+use Rattle.md_lines.specs.Lines.{is_empty}
 use Rattle.md_events.proofs.Steps.{empty-turn, block-turn, blocks-end, length-slice}
 use Rattle.md_events.proofs.blocks.write_blocks.Goals as goal
 

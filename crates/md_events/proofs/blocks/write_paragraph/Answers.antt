@@ -1,6 +1,6 @@
-use Rattle.std.proofs.Common.{◌≡◌, ◌++◌, ◌+◌, ◌-◌, ◌∷◌, [], length, take, drop, ap, ◌∙◌, refl, List, ℕ, map}
+use Rattle.std.proofs.Common.{◌≡◌, ◌++◌, ◌+◌, ◌∷◌, [], take, drop, ap, ◌∙◌, refl, List, ℕ, map}
 use Rattle.md_lines.specs.Lines.{LineText, body_of}
-use Rattle.md_tree.specs.declared.event.Event.TheVariants.{Start, End}
+use Rattle.md_tree.specs.declared.event.Event.TheVariants.{End}
 use Rattle.md_tree.specs.declared.event.TagEnd.TheVariants as end
 use Rattle.md_tree.specs.Tree.{events}
 use Rattle.md_inline.specs.Inlines.{inlines}

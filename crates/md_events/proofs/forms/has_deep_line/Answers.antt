@@ -1,7 +1,6 @@
-use Rattle.std.proofs.Common.{arith, ◌≡◌, length, [], ap, ◌∙◌, sym}
+use Rattle.std.proofs.Common.{arith, ◌≡◌, length, ap, ◌∙◌, sym}
 use Rattle.std.proofs.lemmas.Bool.Decides.{nat_tests}
 use Rattle.std.specs.List.{list_any}
-use Rattle.md_lines.specs.Lines.{lines_of}
 use Rattle.md_lines.proofs.LineLemmas.{lines_of-empty, is_one_line-first}
 use Rattle.md_events.specs.Built.{is_deep}
 use Rattle.md_events.proofs.forms.has_deep_line.Goals as goal
