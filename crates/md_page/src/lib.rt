@@ -15,3 +15,6 @@ pub use render::render_view;
 pub use status::Status;
 pub use term_widgets::Page;
 pub use view_print::print_view;
+
+#[cfg(test)]
+mod tests;
