@@ -1,4 +1,4 @@
-use Rattle.std.proofs.Common.{◌≡◌, ◌++◌, length}
+use Rattle.std.proofs.Common.{◌≡◌, ◌++◌}
 use Rattle.term_core.specs.BufferRows.{buffer_rows}
 use Rattle.term_core.specs.BufferRowsIter.{buffer_rows_left}
 use Rattle.view_print.specs.Print.{lines_of}

@@ -1,4 +1,4 @@
-use Rattle.std.proofs.Common.{◌≡◌, ◌++◌, ap, sym, ◌∙◌, append_assoc, append-nil}
+use Rattle.std.proofs.Common.{◌++◌, ap, sym, ◌∙◌, append_assoc, append-nil}
 use Rattle.term_core.specs.VisitedIter.{visited_left}
 use Rattle.view_print.specs.Print.{symbols}
 use Rattle.view_print.proofs.PrintLemmas.{symbols-none, symbols-cons}

@@ -1,4 +1,4 @@
-use Rattle.std.proofs.Common.{◌≡◌, ◌++◌, length}
+use Rattle.std.proofs.Common.{◌≡◌, ◌++◌}
 use Rattle.term_core.specs.Visited.{visited}
 use Rattle.term_core.specs.VisitedIter.{visited_left}
 use Rattle.view_print.specs.Print.{symbols}
