@@ -1,6 +1,6 @@
 -- What is printed of a buffer after a view of all of it.
-use Rattle.std.proofs.Common.{◌≡◌, ℕ, ◌+◌, ◌-◌, ◌*◌, ◌<◌, ◌==◌, ◌&&◌, ◌||◌, Bool, true, false, cond, nat_le, nat_lt, List, [], length, refl, sym, ap, ap₂, subst, ◌∙◌, arith}
-use Rattle.std.specs.Prelude.{slice_get, min, max}
+use Rattle.std.proofs.Common.{◌≡◌, ℕ, ◌+◌, ◌*◌, ◌<◌, ◌==◌, ◌&&◌, ◌||◌, Bool, true, false, cond, nat_le, nat_lt, List, [], length, refl, sym, ap, ap₂, subst, ◌∙◌, arith}
+use Rattle.std.specs.Prelude.{slice_get}
 use Rattle.std.proofs.lemmas.Bool.Decides.{nat_tests}
 use Rattle.term_core.specs.Text.{LineView}
 use Rattle.term_core.specs.Lists.{joined}
@@ -44,7 +44,7 @@ module _ (page : PageView) (area : Rect) (old new : BufferView) (scroll : ℕ) (
   drawn_rows : page ≡ record { width = (intersection area old.area).width; lines = lines } → any_wider (intersection area old.area).width lines ≡ false
       → ((x y : ℕ) → cell_at new x y ≡ cond (has_place (intersection area old.area) x y)
       (slice_get (joined (view (rows_of (intersection area old.area).width lines) (intersection area old.area).width (intersection area old.area).height scroll))
-          (place_of (intersection area old.area) x y)) (cell_at old x y))
+      (place_of (intersection area old.area) x y)) (cell_at old x y))
       → buffer_rows new ≡ view (page_rows page) new.area.width new.area.height scroll
   drawn_rows is fits drawn =
       let wide : (intersection area old.area).width ≡ new.area.width = ap (λ r. (intersection r old.area).width) same ∙ width-same old.area ∙ ap (λ r. r.width) (sym kept) in
@@ -61,7 +61,7 @@ module _ (page : PageView) (area : Rect) (old new : BufferView) (scroll : ℕ) (
       subst (λ p. buffer_rows new ≡ view (page_rows p) new.area.width new.area.height scroll) (sym is)
       (buffer_rows-drawn (record { width = 0; lines = [] }) area old new scroll (AllFit-none 0) full same kept (no_columns new.area.width new.area.height empty)
       (λ x y. ap (λ b. cell_at b x y) stays ∙ sym (ap (λ b. cond b (slice_get (joined (view (rows_of 0 []) (intersection area old.area).width (intersection area old.area).height scroll))
-          (place_of (intersection area old.area) x y)) (cell_at old x y)) (has_place-empty (intersection area old.area) x y none))))
+      (place_of (intersection area old.area) x y)) (cell_at old x y)) (has_place-empty (intersection area old.area) x y none))))
 
   -- the rows of a buffer after a view of all of it
   pub whole_rows : (is_empty (intersection area old.area) ≡ true → page ≡ record { width = 0; lines = [] })
@@ -70,7 +70,7 @@ module _ (page : PageView) (area : Rect) (old new : BufferView) (scroll : ℕ) (
       → (is_empty (intersection area old.area) ≡ false → any_wider (intersection area old.area).width lines ≡ false)
       → (is_empty (intersection area old.area) ≡ false → (x y : ℕ) → cell_at new x y ≡ cond (has_place (intersection area old.area) x y)
       (slice_get (joined (view (rows_of (intersection area old.area).width lines) (intersection area old.area).width (intersection area old.area).height scroll))
-          (place_of (intersection area old.area) x y)) (cell_at old x y))
+      (place_of (intersection area old.area) x y)) (cell_at old x y))
       → buffer_rows new ≡ view (page_rows page) new.area.width new.area.height scroll
   whole_rows none stays is fits drawn = go (is_empty (intersection area old.area)) refl
     where

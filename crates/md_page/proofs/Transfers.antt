@@ -1,12 +1,11 @@
 -- One step after another.
-use Rattle.std.proofs.Common.{◌≡◌, ℕ, ◌+◌, ◌-◌, ◌≤◌, ◌<◌, List, [], ◌++◌, length, take, drop, arith, rules, refl, sym, ◌∙◌, ap, append_assoc, length-append}
-use Rattle.std.specs.Prelude.{Option, Some, None, Bool, true, false}
-use Rattle.std.specs.Io.KnownBytes.{Appends, Consumes, Keeps, IsAtEnd}
+use Rattle.std.proofs.Common.{◌≡◌, ℕ, ◌-◌, ◌≤◌, ◌<◌, List, [], ◌++◌, length, take, drop, arith, rules, refl, sym, ◌∙◌, ap, append_assoc, length-append}
+use Rattle.std.specs.Prelude.{Option, Some, None, Bool, false}
+use Rattle.std.specs.Io.KnownBytes.{Appends, Consumes, Keeps}
 use Rattle.std.proofs.lemmas.List.{take_at, take-append-drop, take_rest}
 use Rattle.md_page.specs.declared.status.Status.{Status}
 use Rattle.md_page.specs.declared.status.Status.TheVariants.{Done, Usage, ReadFault, TooLong, NotUtf8, TooNarrow, WriteFault, Memory, Unbuilt}
-
-use Rattle.md_page.specs.Reading.{Change, TookAll, Stopped, StopsReading, IsStep, StopsStep, limit}
+use Rattle.md_page.specs.Reading.{TookAll, Stopped, StopsReading, IsStep, StopsStep, limit}
 use Rattle.md_page.specs.Writing.{WroteSome}
 use Rattle.ends.specs.Causes.{Rose}
 

@@ -13,7 +13,7 @@ use Rattle.view_print.specs.Print.{print}
 use Rattle.md_page.specs.declared.error.ViewError.{ViewError}
 use Rattle.md_page.specs.declared.error.ViewError.TheVariants as refusal
 use Rattle.md_page.specs.declared.status.Status.{Status}
-use Rattle.md_page.specs.declared.status.Status.TheVariants.{Done, Usage, ReadFault, TooLong, NotUtf8, TooNarrow, WriteFault, Memory, Unbuilt}
+use Rattle.md_page.specs.declared.status.Status.TheVariants.{Done, NotUtf8, TooNarrow, Memory, Unbuilt}
 
 -- the rows of a text's page: the wrap, at its width, of the lines that the text's tree lays out
 abbrev pub rows : List ℕ → ℕ → List (List Grapheme)

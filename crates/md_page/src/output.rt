@@ -29,7 +29,15 @@ pub(crate) fn output(alloc: Global, bytes: &[u8], job: Job) -> Result<Vec<u8>, S
         return Err(Status::Memory);
     };
     let options = Options::default();
-    let page = match render_view(alloc, bytes, &options, &AnsiFence, area, job.scroll as usize, &mut buffer) {
+    let page = match render_view(
+        alloc,
+        bytes,
+        &options,
+        &AnsiFence,
+        area,
+        job.scroll as usize,
+        &mut buffer,
+    ) {
         Ok(page) => page,
         Err(ViewError::Memory) => return Err(Status::Memory),
         Err(ViewError::NotUtf8) => return Err(Status::NotUtf8),

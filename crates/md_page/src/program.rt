@@ -43,7 +43,12 @@ fn run_job<R: Source, W: Sink>(alloc: Global, job: Job, source: &mut R, sink: &m
 }
 
 /// Shows a source as the words say.
-fn run_words<R: Source, W: Sink>(alloc: Global, words: &[String], source: &mut R, sink: &mut W) -> Status
+fn run_words<R: Source, W: Sink>(
+    alloc: Global,
+    words: &[String],
+    source: &mut R,
+    sink: &mut W,
+) -> Status
     ensures source_faults { R.faults source.old ≤ R.faults source.new }
     ensures sink_faults { W.faults sink.old ≤ W.faults sink.new }
     ensures ran { Ran Cause shown (job_of (map string_bytes words.now)) result
@@ -65,7 +70,12 @@ fn run_words<R: Source, W: Sink>(alloc: Global, words: &[String], source: &mut R
 /// HEIGHT cells, and writes the buffer's rows and the page's number of rows. The statuses come in the order: `Usage`;
 /// `ReadFault` or `TooLong`, whichever call came first; `NotUtf8`; `Unbuilt`; `TooNarrow`; `WriteFault`. `Memory` may
 /// stand in place of any of them before the first write.
-pub fn run<R: Source, W: Sink>(alloc: Global, words: &[String], source: &mut R, sink: &mut W) -> Status
+pub fn run<R: Source, W: Sink>(
+    alloc: Global,
+    words: &[String],
+    source: &mut R,
+    sink: &mut W,
+) -> Status
     ensures source_faults { R.faults source.old ≤ R.faults source.new }
     ensures sink_faults { W.faults sink.old ≤ W.faults sink.new }
 
@@ -79,7 +89,7 @@ pub fn run<R: Source, W: Sink>(alloc: Global, words: &[String], source: &mut R, 
     // The headline: what is printed is the view of the page's rows, whose pieces are the tree's.
     ensures done { (job : Job) → job_of (map string_bytes words.now) ≡ Some job → result ≡ Status.Done
         → IfSome (R.left source.old) (λ bytes. IsAtEnd (R.left source.new) × IsShowable job bytes
-            × Appends (W.written sink.old) (W.written sink.new) (shown job bytes)) }
+        × Appends (W.written sink.old) (W.written sink.new) (shown job bytes)) }
     ensures pieces { (text : List ℕ) → puts (document_layout (tree text)).marks ≡ document_pieces (tree text) }
 
     // When each other status comes, and what it leaves.
@@ -100,7 +110,7 @@ pub fn run<R: Source, W: Sink>(alloc: Global, words: &[String], source: &mut R, 
     ensures write_fault { (job : Job) → job_of (map string_bytes words.now) ≡ Some job → result ≡ Status.WriteFault
         → Rose (W.faults sink.old) (W.faults sink.new)
         × IfSome (R.left source.old) (λ bytes. IsAtEnd (R.left source.new)
-            × WroteSome (change_of W.written W.faults sink.old sink.new) (shown job bytes)) }
+        × WroteSome (change_of W.written W.faults sink.old sink.new) (shown job bytes)) }
     ensures untouched { (result ≡ Status.Done → ⊥) → (result ≡ Status.WriteFault → ⊥) → sink.new ≡ sink.old }
     ensures complete { (job : Job) → job_of (map string_bytes words.now) ≡ Some job
         → IsSomeAnd (R.left source.old) (λ bytes. (length bytes ≤ limit) × IsShowable job bytes)

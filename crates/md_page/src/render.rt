@@ -69,13 +69,13 @@ pub fn render_view<'a, S: StyleSheet, H: Highlighter>(
     ensures pieces { puts (document_layout (tree markdown.now)).marks ≡ document_pieces (tree markdown.now) }
     ensures drawn { is_empty (intersection area buf.old.area) ≡ false
         → OnOk result ((x y : ℕ) → let cut = intersection area buf.old.area in
-            cell_at buf.new x y ≡ (if has_place cut x y
-            then slice_get (joined (view (rows markdown.now cut.width) cut.width cut.height scroll)) (place_of cut x y)
-            else cell_at buf.old x y)) }
+        cell_at buf.new x y ≡ (if has_place cut x y
+        then slice_get (joined (view (rows markdown.now cut.width) cut.width cut.height scroll)) (place_of cut x y)
+        else cell_at buf.old x y)) }
     ensures page { is_empty (intersection area buf.old.area) ≡ false
         → IfOk result (λ page. page ≡ record {
-            width = (intersection area buf.old.area).width;
-            lines = document_lines (tree markdown.now);
+          width = (intersection area buf.old.area).width;
+          lines = document_lines (tree markdown.now);
         }) }
 
     // An area without a cell.

@@ -9,7 +9,13 @@ use std::test::Fail;
 use term_core::{Buffer, Rect};
 
 /// The status of a run over ends in memory, and what it wrote.
-fn ran(alloc: Global, words: &[&str], input: &[u8], most: usize, fails: u64) -> Result<(Status, Vec<u8>), AllocError>
+fn ran(
+    alloc: Global,
+    words: &[&str],
+    input: &[u8],
+    most: usize,
+    fails: u64,
+) -> Result<(Status, Vec<u8>), AllocError>
     requires { 1 ≤ most }
 {
     let mut owned = Vec::new(alloc);
@@ -26,7 +32,11 @@ fn ran(alloc: Global, words: &[&str], input: &[u8], most: usize, fails: u64) -> 
 fn views_are_printed_with_the_number_of_rows(rt: HostRuntime) -> Result<(), Fail> {
     let alloc = rt.alloc();
     let rows = [
-        (["20", "2", "0"], "Hello, world!", "Hello, world!\n\nrows 1\n"),
+        (
+            ["20", "2", "0"],
+            "Hello, world!",
+            "Hello, world!\n\nrows 1\n",
+        ),
         (["5", "1", "0"], "", "\nrows 0\n"),
         (["5", "2", "0"], "aa bb cc", "aa bb\ncc\nrows 2\n"),
         (["5", "2", "0"], "abcdefgh", "abcde\nfgh\nrows 2\n"),
@@ -62,7 +72,13 @@ fn refusals_write_nothing(rt: HostRuntime) -> Result<(), Fail> {
     }
     let (status, _) = ran(alloc, ["20", "2"].as_slice(), b"a".as_slice(), 1000, 0)?;
     assert_eq!(rt; status, Status::Usage);
-    let (status, _) = ran(alloc, ["5", "1", "0"].as_slice(), b"\xff".as_slice(), 1000, 0)?;
+    let (status, _) = ran(
+        alloc,
+        ["5", "1", "0"].as_slice(),
+        b"\xff".as_slice(),
+        1000,
+        0,
+    )?;
     assert_eq!(rt; status, Status::NotUtf8);
     Ok(())
 }
@@ -70,7 +86,13 @@ fn refusals_write_nothing(rt: HostRuntime) -> Result<(), Fail> {
 #[test]
 fn a_fault_leaves_what_was_written_before_it(rt: HostRuntime) -> Result<(), Fail> {
     let alloc = rt.alloc();
-    let (status, written) = ran(alloc, ["20", "2", "0"].as_slice(), b"Hello, world!".as_slice(), 4, 2)?;
+    let (status, written) = ran(
+        alloc,
+        ["20", "2", "0"].as_slice(),
+        b"Hello, world!".as_slice(),
+        4,
+        2,
+    )?;
     assert_eq!(rt; status, Status::WriteFault);
     assert_eq!(rt; written.as_slice(), b"Hell".as_slice());
     Ok(())
@@ -84,8 +106,15 @@ fn a_source_that_fails_or_is_too_long_is_refused(rt: HostRuntime) -> Result<(), 
         words.push(String::from_str(alloc, word)?)?;
     }
     let mut sink = MemorySink::new(alloc, 1000, 1000, Vec::new(alloc))?;
-    let mut failing = MemorySource::new(Vec::from_slice(alloc, b"a".as_slice())?, 1, vec![in alloc; 1u64]?);
-    assert_eq!(rt; run(alloc, &words, &mut failing, &mut sink), Status::ReadFault);
+    let mut failing = MemorySource::new(
+        Vec::from_slice(alloc, b"a".as_slice())?,
+        1,
+        vec![in alloc; 1u64]?,
+    );
+    assert_eq!(rt;
+        run(alloc, &words, &mut failing, &mut sink),
+        Status::ReadFault
+    );
     let mut long = MemorySource::new(vec![in alloc; b'a'; 16_777_217]?, 65_536, Vec::new(alloc));
     assert_eq!(rt; run(alloc, &words, &mut long, &mut sink), Status::TooLong);
     assert_eq!(rt; sink.written().len(), 0);
@@ -93,7 +122,12 @@ fn a_source_that_fails_or_is_too_long_is_refused(rt: HostRuntime) -> Result<(), 
 }
 
 /// The number of rows of the page of a text, drawn without options.
-fn rows_drawn(alloc: Global, markdown: &[u8], area: Rect, buf: &mut Buffer) -> Result<usize, ViewError> {
+fn rows_drawn(
+    alloc: Global,
+    markdown: &[u8],
+    area: Rect,
+    buf: &mut Buffer,
+) -> Result<usize, ViewError> {
     let options = Options::default();
     match simdutf8::compat::from_utf8(markdown) {
         Ok(text) => {
@@ -118,12 +152,18 @@ fn a_view_is_drawn_or_refused_and_changes_nothing_else(rt: HostRuntime) -> Resul
     let narrow = rows_drawn(alloc, wide, Rect::new(0, 0, 1, 1), &mut buffer);
     assert_eq!(rt; narrow, Err(ViewError::TooNarrow));
     assert_eq!(rt; buffer.cell(0, 0).map_or("", |cell| cell.symbol()), " ");
-    assert_eq!(rt; rows_drawn(alloc, wide, Rect::new(0, 0, 2, 1), &mut buffer), Ok(1));
+    assert_eq!(rt;
+        rows_drawn(alloc, wide, Rect::new(0, 0, 2, 1), &mut buffer),
+        Ok(1)
+    );
     assert_eq!(rt; buffer.cell(0, 0).map_or("", |cell| cell.symbol()), "漢");
     assert_eq!(rt; buffer.cell(1, 0).map_or("", |cell| cell.symbol()), " ");
     let none = Rect::new(0, 0, 0, 1);
     let broken = rows_drawn(alloc, b"\xff".as_slice(), none, &mut buffer);
     assert_eq!(rt; broken, Err(ViewError::NotUtf8));
-    assert_eq!(rt; rows_drawn(alloc, b" ".as_slice(), none, &mut buffer), Ok(0));
+    assert_eq!(rt;
+        rows_drawn(alloc, b" ".as_slice(), none, &mut buffer),
+        Ok(0)
+    );
     Ok(())
 }

@@ -15,7 +15,11 @@ const LIMIT: usize = 16_777_216;
 const PART: usize = 65_536;
 
 /// One read, behind the bytes so far: whether there may be more.
-fn read_some<R: Source>(source: &mut R, part: &mut [u8], bytes: &mut Vec<u8>) -> Result<bool, Status>
+fn read_some<R: Source>(
+    source: &mut R,
+    part: &mut [u8],
+    bytes: &mut Vec<u8>,
+) -> Result<bool, Status>
     requires room { 0 < length part.old }
     requires short { length bytes.old.items ≤ limit }
     ensures later { R.faults source.old ≤ R.faults source.new }

@@ -2,10 +2,9 @@
 #![tactic(auto)]
 
 use md_page::{Status, StdSink, StdSource, run};
-use std::env;
-use std::io;
 use std::io::ErrorKind;
 use std::process::ExitCode;
+use std::{env, io};
 
 /// The arguments without the program's name.
 fn words(rt: &HostRuntime) -> Result<Vec<String>, Status> {

@@ -1,16 +1,15 @@
-use Rattle.std.proofs.Common.{◌≡◌, ◌*◌, ℕ, List, length, false, sym, ap, ap₂, subst, ◌∙◌, arith}
+use Rattle.std.proofs.Common.{◌≡◌, ◌*◌, length, sym, ap, ap₂, subst, ◌∙◌, arith}
 use Rattle.std.specs.Prelude.{IsUtf8}
 use Rattle.term_core.specs.Cells.{view}
 use Rattle.term_core.specs.declared.rect.Rect.{Rect}
-use Rattle.term_core.specs.Rect.{intersection, is_empty}
+use Rattle.term_core.specs.Rect.{intersection}
 use Rattle.term_core.specs.Buffers.{BufferView}
-use Rattle.term_core.specs.BufferRows.{buffer_rows}
 use Rattle.term_widgets.specs.Page.{PageView, page_rows}
 use Rattle.view_print.specs.Print.{print}
 use Rattle.md_events.specs.Blocks.{tree}
 use Rattle.md_events.specs.Built.{built}
 use Rattle.md_text.specs.Layout.{document_lines}
-use Rattle.md_page.specs.Shown.{shown, shown_rows, IsShowable, too_wide}
+use Rattle.md_page.specs.Shown.{shown_rows, too_wide}
 use Rattle.md_page.proofs.Showing.{width-same, height-same, whole_rows, has_no_cell-empty, page_rows-shown}
 use Rattle.md_page.proofs.output.output.Goals as goal
 
@@ -38,8 +37,7 @@ returns-in-Ok-print_view c =
     let rows : page_rows page ≡ shown_rows job text =
     page_rows-shown job text page cut cut_wide cut_high (c.in-Ok-render_view.ensures.empty utf8) c.in-Ok-render_view.ensures.page in
     let across : new.area.width ≡ job.width = ap (λ (r : Rect). r.width) (kept ∙ sym same) ∙ wide in
-    let down : new.area.height ≡ job.height = ap (λ (r : Rect). r.height) (kept ∙ sym same) ∙ high in
-    (
+    let down : new.area.height ≡ job.height = ap (λ (r : Rect). r.height) (kept ∙ sym same) ∙ high in (
       record {
         utf8 = utf8;
         is_built = ap built (sym c.in-Ok.ensures.cases.0) ∙ sym c.if-not-built.ensures;

@@ -1,6 +1,5 @@
-use Rattle.std.proofs.Common.{rules, arith, ◌≡◌, ◌≤◌, ◌<◌, length, ap, length-append, length-take, length-drop, false}
+use Rattle.std.proofs.Common.{arith, ◌≤◌, length}
 use Rattle.std.proofs.lemmas.Grind.{common_steps}
-use Rattle.md_page.specs.Reading.{IsStep}
 use Rattle.md_page.proofs.Transfers.{reads_nothing, reads_more, reads_end, reads_stop}
 use Rattle.md_page.proofs.transfer.read_all.Goals as goal
 

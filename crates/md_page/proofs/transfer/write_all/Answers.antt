@@ -1,4 +1,4 @@
-use Rattle.std.proofs.Common.{rules, arith, refl, ◌<◌, length}
+use Rattle.std.proofs.Common.{arith, refl, ◌<◌, length}
 use Rattle.md_page.proofs.Transfers.{writes_on, stops_writing}
 use Rattle.std.proofs.lemmas.Bool.Decides.{nat_tests}
 use Rattle.md_page.proofs.transfer.write_all.Goals as goal
