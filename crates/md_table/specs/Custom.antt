@@ -1,5 +1,4 @@
 -- What a sheet of a user's own choice answers.
-use Rattle.std.specs.Prelude.{ℕ}
 use Rattle.md_table.specs.declared.custom.CustomSheet.{CustomSheet}
 use Rattle.md_table.specs.Answers.{by_level, by_kind}
 use Rattle.md_table.specs.Sheet.{Sheet}

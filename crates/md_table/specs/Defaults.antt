@@ -54,11 +54,11 @@ default_alert Caution = in_color color.Red
 
 -- in UTF-8 the characters U+2139 U+FE0F, U+1F4A1, U+2757, U+26A0 U+FE0F and U+1F534
 abbrev pub default_icon : AlertKind → List ℕ
-default_icon Note = encode_utf8_all (codes "\u{2139}\u{FE0F}")
-default_icon Tip = encode_utf8_all (codes "\u{1F4A1}")
-default_icon Important = encode_utf8_all (codes "\u{2757}")
-default_icon Warning = encode_utf8_all (codes "\u{26A0}\u{FE0F}")
-default_icon Caution = encode_utf8_all (codes "\u{1F534}")
+default_icon Note = encode_utf8_all (codes "ℹ\u{fe0f}")
+default_icon Tip = encode_utf8_all (codes "💡")
+default_icon Important = encode_utf8_all (codes "❗")
+default_icon Warning = encode_utf8_all (codes "⚠\u{fe0f}")
+default_icon Caution = encode_utf8_all (codes "🔴")
 
 abbrev pub default_sheet : Sheet
 default_sheet =

@@ -8,7 +8,9 @@ ghost use Rattle.md_table.specs.Defaults.{default_sheet, default_heading, defaul
 
 use crate::alert::AlertKind;
 use crate::answers::{ByKind, ByLevel};
-use crate::defaults::{DefaultStyleSheet, default_alert, default_heading, default_icon, default_marker};
+use crate::defaults::{
+    DefaultStyleSheet, default_alert, default_heading, default_icon, default_marker,
+};
 use crate::sheet::StyleSheet;
 use term_text::Style;
 
@@ -82,7 +84,8 @@ impl<'a> CustomSheet<'a> {
     /// but 1 to 5.
     pub fn with_heading(self, level: u8, style: Style) -> CustomSheet<'a>
         ensures { custom_sheet result ≡ record (custom_sheet self.entry) {
-            heading = at_level level style (custom_sheet self.entry).heading } }
+          heading = at_level level style (custom_sheet self.entry).heading;
+        } }
     {
         CustomSheet {
             heading: self.heading.with(level, style),
@@ -94,7 +97,8 @@ impl<'a> CustomSheet<'a> {
     /// level but 1 to 5.
     pub fn with_heading_marker(self, level: u8, marker: &'a str) -> CustomSheet<'a>
         ensures { custom_sheet result ≡ record (custom_sheet self.entry) {
-            heading_marker = at_level level marker.now (custom_sheet self.entry).heading_marker } }
+          heading_marker = at_level level marker.now (custom_sheet self.entry).heading_marker;
+        } }
     {
         CustomSheet {
             heading_marker: self.heading_marker.with(level, marker),
@@ -105,7 +109,8 @@ impl<'a> CustomSheet<'a> {
     /// This sheet with another style of alerts of this kind.
     pub fn with_alert(self, kind: AlertKind, style: Style) -> CustomSheet<'a>
         ensures { custom_sheet result ≡ record (custom_sheet self.entry) {
-            alert = at_kind kind style (custom_sheet self.entry).alert } }
+          alert = at_kind kind style (custom_sheet self.entry).alert;
+        } }
     {
         CustomSheet {
             alert: self.alert.with(kind, style),
@@ -116,7 +121,8 @@ impl<'a> CustomSheet<'a> {
     /// This sheet with another sign before the labels of alerts of this kind.
     pub fn with_alert_icon(self, kind: AlertKind, icon: &'a str) -> CustomSheet<'a>
         ensures { custom_sheet result ≡ record (custom_sheet self.entry) {
-            alert_icon = at_kind kind icon.now (custom_sheet self.entry).alert_icon } }
+          alert_icon = at_kind kind icon.now (custom_sheet self.entry).alert_icon;
+        } }
     {
         CustomSheet {
             alert_icon: self.alert_icon.with(kind, icon),
@@ -127,7 +133,8 @@ impl<'a> CustomSheet<'a> {
     /// This sheet with another label of alerts of this kind.
     pub fn with_alert_label(self, kind: AlertKind, label: &'a str) -> CustomSheet<'a>
         ensures { custom_sheet result ≡ record (custom_sheet self.entry) {
-            alert_label = at_kind kind label.now (custom_sheet self.entry).alert_label } }
+          alert_label = at_kind kind label.now (custom_sheet self.entry).alert_label;
+        } }
     {
         CustomSheet {
             alert_label: self.alert_label.with(kind, label),

@@ -57,23 +57,40 @@ fn the_default_styles_are_these(rt: HostRuntime) -> Result<(), Fail> {
 #[test]
 fn the_default_marks_and_alerts_are_these(rt: HostRuntime) -> Result<(), Fail> {
     let s = DefaultStyleSheet;
-    for (level, marker) in [(1, "#"), (2, "##"), (3, "###"), (4, "####"), (5, "#####"), (6, "######")] {
+    for (level, marker) in [
+        (1, "#"),
+        (2, "##"),
+        (3, "###"),
+        (4, "####"),
+        (5, "#####"),
+        (6, "######"),
+    ] {
         assert_eq!(rt; s.heading_marker(level), marker);
     }
     assert_eq!(rt; s.code_block_fence(), "```");
     let rows = [
-        (AlertKind::Note, Blue, "\u{2139}\u{FE0F}", "Note"),
-        (AlertKind::Tip, Green, "\u{1F4A1}", "Tip"),
-        (AlertKind::Important, Magenta, "\u{2757}", "Important"),
-        (AlertKind::Warning, Yellow, "\u{26A0}\u{FE0F}", "Warning"),
-        (AlertKind::Caution, Red, "\u{1F534}", "Caution"),
+        (AlertKind::Note, Blue, "Note"),
+        (AlertKind::Tip, Green, "Tip"),
+        (AlertKind::Important, Magenta, "Important"),
+        (AlertKind::Warning, Yellow, "Warning"),
+        (AlertKind::Caution, Red, "Caution"),
     ];
-    for (kind, color, icon, label) in rows {
-        assert_eq!(rt; s.alert(kind), Style::new().fg(color), "{label}");
-        assert_eq!(rt; s.alert_icon(kind), icon, "{label}");
+    for (kind, color, label) in rows {
+        assert_eq!(rt; s.alert(kind), Style::new().fg(color));
         assert_eq!(rt; s.alert_label(kind), label);
         assert_eq!(rt; kind.label(), label);
     }
+    Ok(())
+}
+
+#[test]
+fn the_default_icons_are_these(rt: HostRuntime) -> Result<(), Fail> {
+    let s = DefaultStyleSheet;
+    assert_eq!(rt; s.alert_icon(AlertKind::Note), "\u{2139}\u{FE0F}");
+    assert_eq!(rt; s.alert_icon(AlertKind::Tip), "\u{1F4A1}");
+    assert_eq!(rt; s.alert_icon(AlertKind::Important), "\u{2757}");
+    assert_eq!(rt; s.alert_icon(AlertKind::Warning), "\u{26A0}\u{FE0F}");
+    assert_eq!(rt; s.alert_icon(AlertKind::Caution), "\u{1F534}");
     Ok(())
 }
 
@@ -91,7 +108,9 @@ fn a_custom_sheet_changes_the_answers_that_are_set(rt: HostRuntime) -> Result<()
     let custom = default.with_link(red).with_heading_marker(2, "§");
     assert_eq!(rt; link_and_mark(&custom), (red, "§"));
     assert_eq!(rt; custom.heading_marker(3), "###");
-    let alerts = custom.with_alert_icon(AlertKind::Tip, "").with_alert_label(AlertKind::Note, "N.B.");
+    let alerts = custom
+        .with_alert_icon(AlertKind::Tip, "")
+        .with_alert_label(AlertKind::Note, "N.B.");
     assert_eq!(rt; alerts.alert_icon(AlertKind::Tip), "");
     assert_eq!(rt; alerts.alert_icon(AlertKind::Note), "\u{2139}\u{FE0F}");
     assert_eq!(rt; alerts.alert_label(AlertKind::Note), "N.B.");

@@ -8,5 +8,5 @@ use Rattle.md_table.proofs.custom.CustomSheet.with_heading_marker.Goals as goal
 pub returns : goal.returns
 returns c =
     ap (λ answers. record (custom_sheet c.args.self) { heading_marker = answers })
-      (fun_ext (λ other. ap (λ marker. marker.now) (c.with.ensures other)
-        ∙ apply-at_level (λ marker. marker.now) c.args.level c.args.marker (by_level c.args.self.heading_marker) other))
+    (fun_ext (λ other. ap (λ marker. marker.now) (c.with.ensures other)
+    ∙ apply-at_level (λ marker. marker.now) c.args.level c.args.marker (by_level c.args.self.heading_marker) other))
