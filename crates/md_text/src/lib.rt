@@ -9,12 +9,11 @@ pub mod laws;
 mod machine;
 mod options;
 mod render;
-mod styles;
 #[cfg(test)]
 mod tests;
 
 pub use error::RenderError;
 pub use highlight::{AnsiFence, Highlighter, NoHighlight};
+pub use md_table::{AlertKind, CustomSheet, DefaultStyleSheet, StyleSheet};
 pub use options::Options;
 pub use render::{from_str, from_str_with_options};
-pub use styles::{DefaultStyleSheet, StyleSheet};

@@ -2,7 +2,7 @@
 ghost use Rattle.std.specs.Prelude.{◌≡◌};
 ghost use Rattle.md_text.specs.Options.{OptionsView};
 
-use crate::styles::{DefaultStyleSheet, StyleSheet};
+use md_table::{DefaultStyleSheet, StyleSheet};
 use std::marker::Model;
 
 /// How a tree is laid out: its style sheet.

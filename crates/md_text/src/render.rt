@@ -9,8 +9,8 @@ use crate::error::RenderError;
 use crate::highlight::{Highlighter, NoHighlight};
 use crate::machine::Machine;
 use crate::options::Options;
-use crate::styles::StyleSheet;
 use md_events::{Event, read};
+use md_table::StyleSheet;
 use std::alloc::{AllocError, Global};
 use term_text::Text;
 

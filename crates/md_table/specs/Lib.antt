@@ -1,0 +1,5 @@
+pub mod AlertKind
+pub mod Sheet
+pub mod Defaults
+pub mod Answers
+pub mod Custom
