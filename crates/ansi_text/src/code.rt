@@ -1,0 +1,111 @@
+// The codes of SGR sequences.
+ghost use Rattle.std.specs.Prelude.{◌≡◌, ◌<◌, Some, None};
+ghost use Rattle.ansi_text.specs.Codes.{dark, light, listed};
+
+use term_text::Color;
+
+/// What a number of an SGR sequence stands for.
+#[derive(Debug, PartialEq, Drop)]
+pub enum AnsiCode {
+    Reset,
+    Bold,
+    Faint,
+    Italic,
+    Underline,
+    SlowBlink,
+    RapidBlink,
+    Reverse,
+    Conceal,
+    CrossedOut,
+    PrimaryFont,
+    AlternateFont,
+    AlternateFonts(u8),
+    Fraktur,
+    BoldOff,
+    Normal,
+    NotItalic,
+    UnderlineOff,
+    BlinkOff,
+    InvertOff,
+    Reveal,
+    CrossedOutOff,
+    ForegroundColor(Color),
+    SetForegroundColor,
+    DefaultForegroundColor,
+    BackgroundColor(Color),
+    SetBackgroundColor,
+    DefaultBackgroundColor,
+    Code(Vec<u8>),
+}
+
+/// The code that is listed by this number, or `None`.
+pub(crate) fn listed(code: u8) -> Option<AnsiCode>
+    ensures { result ≡ listed code }
+{
+    match code {
+        0 => Some(AnsiCode::Reset),
+        1 => Some(AnsiCode::Bold),
+        2 => Some(AnsiCode::Faint),
+        3 => Some(AnsiCode::Italic),
+        4 => Some(AnsiCode::Underline),
+        5 => Some(AnsiCode::SlowBlink),
+        6 => Some(AnsiCode::RapidBlink),
+        7 => Some(AnsiCode::Reverse),
+        8 => Some(AnsiCode::Conceal),
+        9 => Some(AnsiCode::CrossedOut),
+        10 => Some(AnsiCode::PrimaryFont),
+        11 => Some(AnsiCode::AlternateFont),
+        20 => Some(AnsiCode::Fraktur),
+        21 => Some(AnsiCode::BoldOff),
+        22 => Some(AnsiCode::Normal),
+        23 => Some(AnsiCode::NotItalic),
+        24 => Some(AnsiCode::UnderlineOff),
+        25 => Some(AnsiCode::BlinkOff),
+        27 => Some(AnsiCode::InvertOff),
+        28 => Some(AnsiCode::Reveal),
+        29 => Some(AnsiCode::CrossedOutOff),
+        30..=37 => Some(AnsiCode::ForegroundColor(dark(code - 30))),
+        38 => Some(AnsiCode::SetForegroundColor),
+        39 => Some(AnsiCode::DefaultForegroundColor),
+        40..=47 => Some(AnsiCode::BackgroundColor(dark(code - 40))),
+        48 => Some(AnsiCode::SetBackgroundColor),
+        49 => Some(AnsiCode::DefaultBackgroundColor),
+        90..=97 => Some(AnsiCode::ForegroundColor(light(code - 90))),
+        100..=107 => Some(AnsiCode::BackgroundColor(light(code - 100))),
+        _ => None,
+    }
+}
+
+/// The colours of the codes 30 to 37 and 40 to 47.
+fn dark(number: u8) -> Color
+    requires { number < 8 }
+    ensures { result ≡ dark number }
+{
+    match number {
+        0 => Color::Black,
+        1 => Color::Red,
+        2 => Color::Green,
+        3 => Color::Yellow,
+        4 => Color::Blue,
+        5 => Color::Magenta,
+        6 => Color::Cyan,
+        _ => Color::Gray,
+    }
+}
+
+/// The colours of the codes 90 to 97 and 100 to 107.
+fn light(number: u8) -> Color
+    requires { number < 8 }
+    ensures { result ≡ light number }
+{
+    match number {
+        0 => Color::DarkGray,
+        1 => Color::LightRed,
+        2 => Color::LightGreen,
+        3 => Color::LightYellow,
+        4 => Color::LightBlue,
+        5 => Color::LightMagenta,
+        6 => Color::LightCyan,
+        _ => Color::White,
+    }
+}

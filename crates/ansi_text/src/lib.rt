@@ -1,0 +1,9 @@
+//! Text with ANSI colours, as styled lines.
+#![tactic(auto)]
+
+mod code;
+mod item;
+mod items;
+mod number;
+
+pub use code::AnsiCode;
