@@ -1,1 +1,4 @@
 pub mod NumberLemmas
+pub mod KeepLemmas
+pub mod SequenceLemmas
+pub mod PieceLemmas

@@ -26,12 +26,16 @@ abbrev pub after_sequence : Style → List Item → Style
 after_sequence style [] = reset_style
 after_sequence style (i ∷ is) = after_items style (i ∷ is)
 
+-- the style after a piece
+abbrev pub after_piece : Style → Piece → Style
+after_piece style (sgr items) = after_sequence style items
+after_piece style cut = style
+after_piece style (stretch text) = style
+
 -- the style after the pieces: the fold of all their sequences
 unfoldable pub after_pieces : Style → List Piece → Style
 after_pieces style [] = style
-after_pieces style (sgr items ∷ pieces) = after_pieces (after_sequence style items) pieces
-after_pieces style (cut ∷ pieces) = after_pieces style pieces
-after_pieces style (stretch text ∷ pieces) = after_pieces style pieces
+after_pieces style (piece ∷ pieces) = after_pieces (after_piece style piece) pieces
 
 -- each stretch is a span in the style after the sequences before it
 unfoldable pub spans : Style → List Piece → List SpanView

@@ -1,5 +1,6 @@
 -- A line divided into sequences, dropped pieces and stretches.
-use Rattle.std.specs.Prelude.{ℕ, zero, suc, ◌==◌, nat_le, Bool, ◌||◌, ◌&&◌, List, [], ◌∷◌, length, Option, Some, None, if◌then◌else◌}
+use Rattle.std.specs.Prelude.{ℕ, zero, suc, ◌≡◌, ◌==◌, Bool, true, List, [], ◌∷◌, length, Option, Some, None, if◌then◌else◌}
+use Rattle.std.specs.Char.{is_ascii_alphabetic}
 use Rattle.ansi_text.specs.declared.item.Item.{Item}
 use Rattle.ansi_text.specs.Sequences.{Sequence, sequence}
 
@@ -16,7 +17,7 @@ pub record Escape : Type 0 where
 
 -- an ASCII letter
 abbrev pub is_letter : ℕ → Bool
-is_letter b = (nat_le 65 b && nat_le b 90) || (nat_le 97 b && nat_le b 122)
+is_letter b = is_ascii_alphabetic b
 
 -- BEL
 abbrev pub is_bell : ℕ → Bool
@@ -57,3 +58,13 @@ pieces_within (suc n) (b ∷ bs) =
 -- the pieces of a line; each step takes a byte
 abbrev pub pieces : List ℕ → List Piece
 pieces bs = pieces_within (length bs) bs
+
+-- how many bytes stand before the first escape byte
+unfoldable pub first_escape : List ℕ → ℕ
+first_escape [] = 0
+first_escape (b ∷ bs) = if b == 27 then 0 else suc (first_escape bs)
+
+-- nothing is left, or an escape byte stands in front
+abbrev pub AtEscape : List ℕ → Type 0
+AtEscape [] = Unit {0}
+AtEscape (b ∷ bs) = (b == 27) ≡ true

@@ -1,6 +1,8 @@
 -- SGR sequences.
 use Rattle.std.specs.Prelude.{ℕ, zero, suc, ◌==◌, List, [], ◌∷◌, length, Option, Some, None, if◌then◌else◌}
+use Rattle.std.specs.Option.{option_and_then}
 use Rattle.ansi_text.specs.declared.item.Item.{Item}
+use Rattle.ansi_text.specs.Numbers.{required}
 use Rattle.ansi_text.specs.Items.{ItemRead, item}
 
 -- the items of a sequence that was read, and what follows it
@@ -29,5 +31,4 @@ items bs = items_within (length bs) bs
 
 -- after ESC: `[`, any number of items, and `m`
 abbrev pub sequence : List ℕ → Option Sequence
-sequence [] = None
-sequence (b ∷ bs) = if b == 91 then items bs else None
+sequence bs = option_and_then items (required 91 bs)

@@ -1,8 +1,9 @@
 // The codes of SGR sequences.
 ghost use Rattle.std.specs.Prelude.{◌≡◌, ◌<◌, Some, None};
-ghost use Rattle.ansi_text.specs.Codes.{dark, light, listed};
+ghost use Rattle.ansi_text.specs.Codes.{acts, after_item, dark, light, listed};
 
-use term_text::Color;
+use crate::item::Item;
+use term_text::{Color, Modifier, Style};
 
 /// What a number of an SGR sequence stands for.
 #[derive(Debug, PartialEq, Drop)]
@@ -107,5 +108,62 @@ fn light(number: u8) -> Color
         5 => Color::LightMagenta,
         6 => Color::LightCyan,
         _ => Color::White,
+    }
+}
+
+/// What an item does to a style.
+pub(crate) fn after_item(style: Style, item: Item) -> Style
+    ensures { result ≡ after_item style item }
+{
+    match listed(item.code) {
+        Some(code) => acts(code, item.color, style),
+        None => style,
+    }
+}
+
+/// What a code does to a style; the colour is the one that follows the codes 38 and 48.
+fn acts(code: AnsiCode, color: Option<Color>, style: Style) -> Style
+    ensures { result ≡ acts code color style }
+{
+    match code {
+        AnsiCode::Reset => Style::reset(),
+        AnsiCode::Bold => style.add_modifier(Modifier::BOLD),
+        AnsiCode::Faint => style.add_modifier(Modifier::DIM),
+        AnsiCode::Italic => style.add_modifier(Modifier::ITALIC),
+        AnsiCode::Underline => style.add_modifier(Modifier::UNDERLINED),
+        AnsiCode::SlowBlink => style.add_modifier(Modifier::SLOW_BLINK),
+        AnsiCode::RapidBlink => style.add_modifier(Modifier::RAPID_BLINK),
+        AnsiCode::Reverse => style.add_modifier(Modifier::REVERSED),
+        AnsiCode::Conceal => style.add_modifier(Modifier::HIDDEN),
+        AnsiCode::CrossedOut => style.add_modifier(Modifier::CROSSED_OUT),
+        AnsiCode::Normal => style
+            .remove_modifier(Modifier::BOLD)
+            .remove_modifier(Modifier::DIM),
+        AnsiCode::NotItalic => style.remove_modifier(Modifier::ITALIC),
+        AnsiCode::UnderlineOff => style.remove_modifier(Modifier::UNDERLINED),
+        AnsiCode::BlinkOff => style
+            .remove_modifier(Modifier::SLOW_BLINK)
+            .remove_modifier(Modifier::RAPID_BLINK),
+        AnsiCode::InvertOff => style.remove_modifier(Modifier::REVERSED),
+        AnsiCode::Reveal => style.remove_modifier(Modifier::HIDDEN),
+        AnsiCode::CrossedOutOff => style.remove_modifier(Modifier::CROSSED_OUT),
+        AnsiCode::ForegroundColor(color) => style.fg(color),
+        AnsiCode::DefaultForegroundColor => style.fg(Color::Reset),
+        AnsiCode::BackgroundColor(color) => style.bg(color),
+        AnsiCode::DefaultBackgroundColor => style.bg(Color::Reset),
+        AnsiCode::SetForegroundColor => match color {
+            Some(color) => style.fg(color),
+            None => style,
+        },
+        AnsiCode::SetBackgroundColor => match color {
+            Some(color) => style.bg(color),
+            None => style,
+        },
+        AnsiCode::PrimaryFont
+        | AnsiCode::AlternateFont
+        | AnsiCode::AlternateFonts(_)
+        | AnsiCode::Fraktur
+        | AnsiCode::BoldOff
+        | AnsiCode::Code(_) => style,
     }
 }

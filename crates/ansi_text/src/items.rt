@@ -1,5 +1,5 @@
 // The readers of the items of an SGR sequence.
-ghost use Rattle.std.specs.Prelude.{◌≡◌, ◌≤◌, length, IfSome, Some};
+ghost use Rattle.std.specs.Prelude.{◌≡◌, ◌≤◌, ◌<◌, length, IfSome, Some};
 ghost use Rattle.std.specs.Option.{option_map};
 ghost use Rattle.ansi_text.specs.Numbers.{byte};
 ghost use Rattle.ansi_text.specs.Items.{next_byte, indexed, rgb, color_of, color, item_of, item, takes_color};
@@ -98,7 +98,8 @@ fn item_of<'a>(code: u8, bytes: &'a [u8]) -> Option<Reading<'a>>
 
 /// The item in front: a code, for 38 and 48 a colour, and an optional `;`.
 pub(crate) fn item<'a>(bytes: &'a [u8]) -> Option<Reading<'a>>
-    ensures { option_map item_read result ≡ item bytes.now }
+    ensures item { option_map item_read result ≡ item bytes.now }
+    ensures shorter { IfSome result (λ r. length r.rest.now < length bytes.now) }
 {
     let code = byte(bytes)?;
     item_of(code.value as u8, code.rest)

@@ -5,5 +5,6 @@ mod code;
 mod item;
 mod items;
 mod number;
+mod sequence;
 
 pub use code::AnsiCode;
