@@ -2,3 +2,4 @@ pub mod NumberLemmas
 pub mod KeepLemmas
 pub mod SequenceLemmas
 pub mod PieceLemmas
+pub mod LineLemmas

@@ -5,3 +5,6 @@ pub mod Sequences
 pub mod Pieces
 pub mod Ansi
 pub mod Reads
+pub mod Lines
+pub mod Errors
+pub mod Answers
