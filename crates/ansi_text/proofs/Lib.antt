@@ -3,3 +3,4 @@ pub mod KeepLemmas
 pub mod SequenceLemmas
 pub mod PieceLemmas
 pub mod LineLemmas
+pub mod TextLemmas

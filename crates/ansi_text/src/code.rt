@@ -1,8 +1,9 @@
 // The codes of SGR sequences.
-ghost use Rattle.std.specs.Prelude.{◌≡◌, ◌<◌, Some, None};
-ghost use Rattle.ansi_text.specs.Codes.{acts, after_item, dark, light, listed};
+ghost use Rattle.std.specs.Prelude.{◌≡◌, ◌<◌, IfOk, IsOk, IsSome};
+ghost use Rattle.ansi_text.specs.Codes.{IsCode, acts, after_item, dark, light, listed};
 
 use crate::item::Item;
+use std::alloc::{AllocError, Global};
 use term_text::{Color, Modifier, Style};
 
 /// What a number of an SGR sequence stands for.
@@ -37,6 +38,24 @@ pub enum AnsiCode {
     SetBackgroundColor,
     DefaultBackgroundColor,
     Code(Vec<u8>),
+}
+
+impl AnsiCode {
+    /// The code of a number: the one that is listed by it, which takes no memory, else `Code` with the number itself, or want
+    /// of memory. The numbers are those of ECMA-48's SELECT GRAPHIC RENDITION and of the 16-colour extensions of terminals.
+    pub fn from_code(alloc: Global, code: u8) -> Result<AnsiCode, AllocError>
+        ensures code { IfOk result (λ answer. IsCode code answer) }
+        ensures listed { IsSome (listed code) → IsOk result }
+    {
+        match listed(code) {
+            Some(answer) => Ok(answer),
+            None => {
+                let mut bytes = Vec::new(alloc);
+                bytes.push(code)?;
+                Ok(AnsiCode::Code(bytes))
+            }
+        }
+    }
 }
 
 /// The code that is listed by this number, or `None`.

@@ -7,7 +7,10 @@ mod item;
 mod items;
 mod line;
 mod number;
+mod owned;
 mod sequence;
+mod text;
 
 pub use code::AnsiCode;
 pub use error::Error;
+pub use text::{IntoText, bytes_into_text, bytes_to_text, line_into_text};
