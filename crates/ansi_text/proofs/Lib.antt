@@ -4,3 +4,4 @@ pub mod SequenceLemmas
 pub mod PieceLemmas
 pub mod LineLemmas
 pub mod TextLemmas
+pub mod Utf8Lemmas

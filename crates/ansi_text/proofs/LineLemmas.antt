@@ -3,6 +3,7 @@ use Rattle.std.proofs.Common.{◌≡◌, ◌<◌, ◌≤◌, ◌-◌, ◌+◌, �
 use Rattle.std.proofs.lemmas.Bool.{eqb-true, false≢true}
 use Rattle.std.proofs.lemmas.Bool.Decides.{nat_tests}
 use Rattle.std.proofs.lemmas.Str.{is_utf8-from_IsUtf8, IsUtf8-from_is_utf8, IsUtf8-nil}
+use Rattle.std.proofs.lemmas.List.Folds.{list_all-append}
 use Rattle.std.specs.List.{list_all}
 use Rattle.std.specs.Str.{is_utf8, IsUtf8}
 use Rattle.term_text.specs.Style.{no_style}
@@ -76,7 +77,7 @@ after-past style (b ∷ bs) e = ap (λ (x : ℕ). after_pieces style (pieces (x 
 -- a line goes on after its first stretch and the escape behind it
 pub spans-step : (style : Style) (bs : List ℕ)
     → spans style (pieces bs)
-      ≡ text_spans style (take (first_escape bs) bs) ++ spans (past_escape style (drop (first_escape bs) bs)).style (pieces (past_escape style (drop (first_escape bs) bs)).rest)
+    ≡ text_spans style (take (first_escape bs) bs) ++ spans (past_escape style (drop (first_escape bs) bs)).style (pieces (past_escape style (drop (first_escape bs) bs)).rest)
 spans-step style bs =
     ap (spans style) (pieces-split bs) ∙ spans-with_stretch style (take (first_escape bs) bs) (pieces (drop (first_escape bs) bs))
     ∙ ap (λ (ss : List SpanView). text_spans style (take (first_escape bs) bs) ++ ss) (spans-past style (drop (first_escape bs) bs) (AtEscape-first_escape bs))
@@ -105,19 +106,11 @@ pub Reads-start : (begun : Style) (bytes : List ℕ) (line : LineView) → line 
 Reads-start begun bytes line e =
     subst (λ (x : LineView). Reads begun bytes x begun bytes) (sym e) (record { plain = refl; are_spans = refl; style_is = refl; are_text = refl })
 
-text_spans-are_text : (style : Style) (text : List ℕ) → is_utf8 text ≡ true → list_all (λ (s : SpanView). is_utf8 s.text) (text_spans style text) ≡ true
+pub text_spans-are_text : (style : Style) (text : List ℕ) → is_utf8 text ≡ true → list_all (λ (s : SpanView). is_utf8 s.text) (text_spans style text) ≡ true
 text_spans-are_text style text e = elim (length text == 0) as (λ v. list_all (λ (s : SpanView). is_utf8 s.text) (cond v [] (plain_span text style ∷ [])) ≡ true) [
   | true ↦ refl
   | false ↦ ap (λ v. v && true) e
 ]
-
-list_all-append : (test : SpanView → Bool) (xs ys : List SpanView) → list_all test (xs ++ ys) ≡ (list_all test xs && list_all test ys)
-list_all-append test [] ys = refl
-list_all-append test (x ∷ xs) ys = ap (λ v. test x && v) (list_all-append test xs ys) ∙ sym (and_assoc (test x) (list_all test xs) (list_all test ys))
-  where
-    and_assoc : (u v w : Bool) → ((u && v) && w) ≡ (u && (v && w))
-    and_assoc true v w = refl
-    and_assoc false v w = refl
 
 pushed-spans : (line : LineView) (style : Style) (text : List ℕ) → (pushed line style text).spans ≡ line.spans ++ text_spans style text
 pushed-spans line style text = elim (length text == 0) as (λ v. cond v line.spans (line.spans ++ plain_span text style ∷ []) ≡ line.spans ++ cond v [] (plain_span text style ∷ [])) [
@@ -134,16 +127,16 @@ Reads-step begun bytes line more style rest text after reads text_is more_is utf
     (subst (λ (x : LineView). Reads begun bytes x past.style past.rest) (sym more_is) (record {
       plain = reads.plain;
       are_spans =
-        ap (λ (ss : List SpanView). ss ++ spans past.style (pieces past.rest)) (pushed-spans line style text)
-        ∙ append_assoc line.spans (text_spans style text) (spans past.style (pieces past.rest))
-        ∙ ap (λ (ss : List SpanView). line.spans ++ ss)
+          ap (λ (ss : List SpanView). ss ++ spans past.style (pieces past.rest)) (pushed-spans line style text)
+          ∙ append_assoc line.spans (text_spans style text) (spans past.style (pieces past.rest))
+          ∙ ap (λ (ss : List SpanView). line.spans ++ ss)
           (ap (λ (t : List ℕ). text_spans style t ++ spans past.style (pieces past.rest)) text_is ∙ sym (spans-step style rest))
-        ∙ reads.are_spans;
+          ∙ reads.are_spans;
       style_is = sym (after-step style rest) ∙ reads.style_is;
       are_text =
-        ap (list_all (λ (s : SpanView). is_utf8 s.text)) (pushed-spans line style text)
-        ∙ list_all-append (λ (s : SpanView). is_utf8 s.text) line.spans (text_spans style text)
-        ∙ ap₂ (λ u v. u && v) reads.are_text (text_spans-are_text style text utf8);
+          ap (list_all (λ (s : SpanView). is_utf8 s.text)) (pushed-spans line style text)
+          ∙ list_all-append (λ (s : SpanView). is_utf8 s.text) line.spans (text_spans style text)
+          ∙ ap₂ (λ u v. u && v) reads.are_text (text_spans-are_text style text utf8);
     }))
   where
     past : StyleRead
@@ -170,9 +163,9 @@ Reads-bad begun bytes line style rest text reads text_is bad =
     ap (list_all (λ (s : SpanView). is_utf8 s.text)) (sym reads.are_spans ∙ ap (λ (ss : List SpanView). line.spans ++ ss) (spans-step style rest))
     ∙ list_all-append (λ (s : SpanView). is_utf8 s.text) line.spans (text_spans style (take (first_escape rest) rest) ++ more)
     ∙ ap₂ (λ u v. u && v) reads.are_text
-      (list_all-append (λ (s : SpanView). is_utf8 s.text) (text_spans style (take (first_escape rest) rest)) more
-        ∙ ap (λ v. v && list_all (λ (s : SpanView). is_utf8 s.text) more)
-          (bad_spans style (take (first_escape rest) rest) (sym (ap is_utf8 text_is) ∙ bad)))
+    (list_all-append (λ (s : SpanView). is_utf8 s.text) (text_spans style (take (first_escape rest) rest)) more
+    ∙ ap (λ v. v && list_all (λ (s : SpanView). is_utf8 s.text) more)
+    (bad_spans style (take (first_escape rest) rest) (sym (ap is_utf8 text_is) ∙ bad)))
   where
     more : List SpanView
     more = spans (past_escape style (drop (first_escape rest) rest)).style (pieces (past_escape style (drop (first_escape rest) rest)).rest)

@@ -34,8 +34,8 @@ items_within-enough (suc m) (suc n) [] h k = refl
 items_within-enough (suc m) (suc n) (b ∷ bs) h k =
     ap (λ o. cond (b == 109) (Some (record { items = []; rest = bs })) o)
     (same_with_item (item (b ∷ bs)) (λ rest. items_within m rest) (λ rest. items_within n rest)
-      (some_rest (item (b ∷ bs)) (λ i. length i.rest < length (b ∷ bs)) _ (item-shorter (b ∷ bs))
-        (λ i lt. items_within-enough m n i.rest (omega (arith, lt, h)) (omega (arith, lt, k)))))
+    (some_rest (item (b ∷ bs)) (λ i. length i.rest < length (b ∷ bs)) _ (item-shorter (b ∷ bs))
+    (λ i lt. items_within-enough m n i.rest (omega (arith, lt, h)) (omega (arith, lt, k)))))
 
 -- items that stand in front, and none
 pub items-nil : items [] ≡ None
@@ -51,8 +51,8 @@ unfolding items_within
 items-item b bs e =
     ap (λ v. cond v (Some (record { items = []; rest = bs })) (with_item (item (b ∷ bs)) (λ rest. items_within (length bs) rest))) e
     ∙ same_with_item (item (b ∷ bs)) (λ rest. items_within (length bs) rest) (λ rest. items rest)
-      (some_rest (item (b ∷ bs)) (λ i. length i.rest < length (b ∷ bs)) _ (item-shorter (b ∷ bs))
-        (λ i lt. items_within-enough (length bs) (length i.rest) i.rest (omega (arith, lt)) (omega arith)))
+    (some_rest (item (b ∷ bs)) (λ i. length i.rest < length (b ∷ bs)) _ (item-shorter (b ∷ bs))
+    (λ i lt. items_within-enough (length bs) (length i.rest) i.rest (omega (arith, lt)) (omega arith)))
 
 abbrev some_end : List ℕ → Option Sequence
 some_end rest = Some (record { items = []; rest = rest })
@@ -72,7 +72,6 @@ items-required_Some (b ∷ bs) rest e =
     let parts = cond_some (b == 109) bs rest e in
     ap (λ (x : ℕ). items (x ∷ bs)) (eqb-true b 109 parts.0) ∙ items-end bs ∙ ap (λ (x : List ℕ). some_end x) parts.1
 
-
 -- what stands behind a sequence
 kept-before : (P : List ℕ → Type 0) (i : Item) (o : Option Sequence) → IfSome o (λ s. P s.rest) → IfSome (before i o) (λ s. P s.rest)
 kept-before P i None h = tt
@@ -89,11 +88,11 @@ kept-items_within P keeps (suc n) [] h = tt
 kept-items_within P keeps (suc n) (b ∷ bs) h =
     go (b == 109) refl
     (kept-with_item P (item (b ∷ bs)) (λ rest. items_within n rest)
-      (some_rest (item (b ∷ bs)) (λ i. P i.rest) _ (kept-item P keeps (b ∷ bs) h)
-        (λ i k. kept-items_within P keeps n i.rest (Behind-from P keeps i.rest k))))
+    (some_rest (item (b ∷ bs)) (λ i. P i.rest) _ (kept-item P keeps (b ∷ bs) h)
+    (λ i k. kept-items_within P keeps n i.rest (Behind-from P keeps i.rest k))))
   where
     go : (v : Bool) → (b == 109) ≡ v → IfSome (with_item (item (b ∷ bs)) (λ rest. items_within n rest)) (λ s. P s.rest)
-      → IfSome (cond v (Some (record { items = []; rest = bs })) (with_item (item (b ∷ bs)) (λ rest. items_within n rest))) (λ s. P s.rest)
+        → IfSome (cond v (Some (record { items = []; rest = bs })) (with_item (item (b ∷ bs)) (λ rest. items_within n rest))) (λ s. P s.rest)
     go true e k = h (let same : b ≡ 109 = eqb-true b 109 e in omega (arith, same))
     go false e k = k
 
@@ -137,6 +136,7 @@ with_sequence-items style bs none =
     filled : (i : Item) (o : Option Sequence) → option_map (with_items style) (before i o) ≡ option_map (with_sequence style) (before i o)
     filled i None = refl
     filled i (Some s) = refl
+
     go : (o : Option ItemRead) → option_map (with_items style) (with_item o (λ rest. items rest)) ≡ option_map (with_sequence style) (with_item o (λ rest. items rest))
     go None = refl
     go (Some i) = filled i.item (items i.rest)

@@ -1,5 +1,6 @@
 -- Texts that are read line by line.
 use Rattle.std.proofs.Common.{◌≡◌, ◌<◌, ◌≤◌, ◌+◌, ◌==◌, ℕ, zero, suc, not, Bool, true, false, cond, List, [], ◌∷◌, ◌++◌, length, map, refl, ap, ap₂, sym, ◌∙◌, subst, arith, append_assoc, append-nil, ◌&&◌, Option, Some, None}
+use Rattle.std.proofs.lemmas.List.Folds.{list_all-append}
 use Rattle.std.specs.List.{list_all}
 use Rattle.std.proofs.lemmas.Bool.{false≢true}
 use Rattle.std.proofs.lemmas.Bool.Decides.{nat_tests}
@@ -17,14 +18,6 @@ pub record ReadsLines (bytes : List ℕ) (text : List LineView) (style : Style) 
   pub are_lines : text ++ styled style (map pieces (raw_lines rest)) ≡ ansi bytes
   pub are_text : is_text text ≡ true
 
-pub lines-all : (test : LineView → Bool) (xs ys : List LineView) → list_all test (xs ++ ys) ≡ (list_all test xs && list_all test ys)
-lines-all test [] ys = refl
-lines-all test (x ∷ xs) ys = ap (λ v. test x && v) (lines-all test xs ys) ∙ sym (and_assoc (test x) (list_all test xs) (list_all test ys))
-  where
-    and_assoc : (u v w : Bool) → ((u && v) && w) ≡ (u && (v && w))
-    and_assoc true v w = refl
-    and_assoc false v w = refl
-
 pub ReadsLines-start : (bytes : List ℕ) (text : List LineView) → 0 < length bytes → text ≡ [] → ReadsLines bytes text no_style bytes
 ReadsLines-start [] text lt e = absurd (omega (arith, lt))
 ReadsLines-start (b ∷ bs) text lt e =
@@ -41,14 +34,14 @@ pub ReadsLines-step : (bytes : List ℕ) (text more : List LineView) (style next
     → line_is_text (ansi_line style line) ≡ true → more ≡ text ++ view ∷ [] → ReadsLines bytes more next after
 ReadsLines-step bytes text more style next rest line after view reads first view_is next_is is more_is = record {
   are_lines =
-    ap₂ (λ (t : List LineView) (s : Style). t ++ styled s (map pieces (raw_lines after))) (more_is ∙ ap (λ (v : LineView). text ++ v ∷ []) view_is) next_is
-    ∙ append_assoc text (ansi_line style line ∷ []) (styled (style_after_line style line) (map pieces (raw_lines after)))
-    ∙ ap (λ (ls : List LineView). text ++ ls) (sym (styled-first style rest line after first))
-    ∙ reads.are_lines;
+      ap₂ (λ (t : List LineView) (s : Style). t ++ styled s (map pieces (raw_lines after))) (more_is ∙ ap (λ (v : LineView). text ++ v ∷ []) view_is) next_is
+      ∙ append_assoc text (ansi_line style line ∷ []) (styled (style_after_line style line) (map pieces (raw_lines after)))
+      ∙ ap (λ (ls : List LineView). text ++ ls) (sym (styled-first style rest line after first))
+      ∙ reads.are_lines;
   are_text =
-    ap is_text (more_is ∙ ap (λ (v : LineView). text ++ v ∷ []) view_is)
-    ∙ lines-all line_is_text text (ansi_line style line ∷ [])
-    ∙ ap₂ (λ u v. u && (v && true)) reads.are_text is;
+      ap is_text (more_is ∙ ap (λ (v : LineView). text ++ v ∷ []) view_is)
+      ∙ list_all-append line_is_text text (ansi_line style line ∷ [])
+      ∙ ap₂ (λ u v. u && (v && true)) reads.are_text is;
 }
 
 pub ReadsLines-end : (bytes : List ℕ) (text : List LineView) (style : Style) (rest : List ℕ) → ReadsLines bytes text style rest → length rest ≡ 0
@@ -63,7 +56,7 @@ pub ReadsLines-bad : (bytes : List ℕ) (text : List LineView) (style : Style) (
     → raw_lines rest ≡ line ∷ raw_lines after → line_is_text (ansi_line style line) ≡ false → is_text (ansi bytes) ≡ false
 ReadsLines-bad bytes text style rest line after reads first bad =
     ap is_text (sym reads.are_lines ∙ ap (λ (ls : List LineView). text ++ ls) (styled-first style rest line after first))
-    ∙ lines-all line_is_text text (ansi_line style line ∷ styled (style_after_line style line) (map pieces (raw_lines after)))
+    ∙ list_all-append line_is_text text (ansi_line style line ∷ styled (style_after_line style line) (map pieces (raw_lines after)))
     ∙ ap₂ (λ u v. u && (v && is_text (styled (style_after_line style line) (map pieces (raw_lines after))))) reads.are_text bad
 
 -- empty input is one empty line
@@ -103,7 +96,7 @@ filled-pieces_within (suc n) (b ∷ bs) =
     go (b == 27) (filled-escape (sequence bs) bs _ (filled-pieces_within n (escape bs).rest)) (filled-in_stretch b _ (filled-pieces_within n bs))
   where
     go : (v : Bool) → FilledPieces ((escape bs).piece ∷ pieces_within n (escape bs).rest) → FilledPieces (in_stretch b (pieces_within n bs))
-      → FilledPieces (cond v ((escape bs).piece ∷ pieces_within n (escape bs).rest) (in_stretch b (pieces_within n bs)))
+        → FilledPieces (cond v ((escape bs).piece ∷ pieces_within n (escape bs).rest) (in_stretch b (pieces_within n bs)))
     go true h k = h
     go false h k = k
 

@@ -9,8 +9,8 @@ pub returns-in_ok-push_span-in-Ok-clause-ok : goal.returns-in_ok-push_span-in-Ok
 returns-in_ok-push_span-in-Ok-clause-ok c =
     let before = c.args.line.now in (
       c.in_ok-push_span-in-Ok.ensures.ok
-      ∙ ap (λ (s : SpanView). record before { spans = cond (length s.text == 0) before.spans (before.spans ++ s ∷ []) })
-        (c.styled.ensures ∙ ap (λ t. plain_span t c.args.style) (c.borrowed.ensures ∙ c.in-Ok.ensures.cases.0)),
+          ∙ ap (λ (s : SpanView). record before { spans = cond (length s.text == 0) before.spans (before.spans ++ s ∷ []) })
+          (c.styled.ensures ∙ ap (λ t. plain_span t c.args.style) (c.borrowed.ensures ∙ c.in-Ok.ensures.cases.0)),
       is_utf8-from_IsUtf8 _ c.in-Ok.ensures.cases.1,
     )
 
