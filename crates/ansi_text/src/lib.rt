@@ -9,6 +9,8 @@ mod line;
 mod number;
 mod owned;
 mod sequence;
+#[cfg(test)]
+mod tests;
 mod text;
 
 pub use code::AnsiCode;
