@@ -5,3 +5,5 @@ pub mod PieceLemmas
 pub mod LineLemmas
 pub mod TextLemmas
 pub mod Utf8Lemmas
+pub mod LawLemmas
+pub mod StyleLemmas

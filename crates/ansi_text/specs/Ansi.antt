@@ -1,9 +1,9 @@
 -- Text with ANSI colours: the input is cut into lines, each line is divided into pieces, and one fold of all sequences gives
 -- each stretch its style.
-use Rattle.std.specs.Prelude.{ℕ, Bool, false, List, [], ◌∷◌, map, Option, Some, None}
+use Rattle.std.specs.Prelude.{ℕ, Bool, not, false, List, [], ◌∷◌, map, Option, Some, None}
 use Rattle.std.specs.List.{list_all}
 use Rattle.std.specs.Str.{is_utf8}
-use Rattle.term_text.specs.LineEnds.{raw_lines}
+use Rattle.term_text.specs.LineEnds.{raw_lines, ends_line}
 use Rattle.term_text.specs.Style.{no_style, reset_style}
 use Rattle.term_text.specs.Text.{SpanView, LineView}
 use Rattle.term_text.specs.declared.style.Style.{Style}
@@ -15,6 +15,10 @@ use Rattle.ansi_text.specs.Pieces.{Piece, sgr, cut, stretch, pieces}
 abbrev pub lines_of : List ℕ → List (List ℕ)
 lines_of [] = [] ∷ []
 lines_of (b ∷ bs) = raw_lines (b ∷ bs)
+
+-- bytes without a line end
+abbrev pub is_one_line : List ℕ → Bool
+is_one_line bytes = list_all (λ b. not (ends_line b)) bytes
 
 -- the style after the items, each acting on the style before it
 unfoldable pub after_items : Style → List Item → Style
@@ -66,6 +70,15 @@ ansi_from style bytes = styled style (map pieces (lines_of bytes))
 -- the lines of the input
 abbrev pub ansi : List ℕ → List LineView
 ansi bytes = ansi_from no_style bytes
+
+-- the style after the lines: the fold of all their sequences
+unfoldable pub after_lines : Style → List (List Piece) → Style
+after_lines style [] = style
+after_lines style (line ∷ lines) = after_lines (after_pieces style line) lines
+
+-- the style after the input, begun in a style
+abbrev pub style_after : Style → List ℕ → Style
+style_after style bytes = after_lines style (map pieces (lines_of bytes))
 
 -- each span of a line is UTF-8
 abbrev pub line_is_text : LineView → Bool

@@ -24,14 +24,16 @@ next_byte bs = option_and_then byte (required 59 bs)
 abbrev pub indexed : List ℕ → Option ColorRead
 indexed bs = option_map (λ (n : NumberRead). record { color = Indexed n.value; rest = n.rest }) (byte bs)
 
+-- the blue of a colour behind its red and green, and its green behind its red
+abbrev pub blue : ℕ → ℕ → List ℕ → Option ColorRead
+blue r g bs = option_map (λ (b : NumberRead). record { color = Rgb r g b.value; rest = b.rest }) (next_byte bs)
+
+abbrev pub green : ℕ → List ℕ → Option ColorRead
+green r bs = option_and_then (λ (g : NumberRead). blue r g.value g.rest) (next_byte bs)
+
 -- three numbers of 0 to 255 with `;` between
 abbrev pub rgb : List ℕ → Option ColorRead
-rgb bs =
-    option_and_then (λ (r : NumberRead).
-    option_and_then (λ (g : NumberRead).
-    option_map (λ (b : NumberRead). record { color = Rgb r.value g.value b.value; rest = b.rest }) (next_byte g.rest))
-    (next_byte r.rest))
-    (byte bs)
+rgb bs = option_and_then (λ (r : NumberRead). green r.value r.rest) (byte bs)
 
 -- after a colour's kind: for 2 red, green and blue, for 5 an index; any other number fails
 abbrev pub color_of : ℕ → List ℕ → Option ColorRead

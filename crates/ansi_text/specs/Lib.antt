@@ -8,3 +8,4 @@ pub mod Reads
 pub mod Lines
 pub mod Errors
 pub mod Answers
+pub mod Written

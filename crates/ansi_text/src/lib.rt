@@ -5,6 +5,7 @@ mod code;
 mod error;
 mod item;
 mod items;
+pub mod laws;
 mod line;
 mod number;
 mod owned;

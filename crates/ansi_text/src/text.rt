@@ -1,8 +1,6 @@
 // Whole inputs with ANSI colours, and single lines of one.
-ghost use Rattle.std.specs.Prelude.{◌≡◌, ◌≢◌, List, ℕ, string_bytes, Result, Err, true, not};
-ghost use Rattle.std.specs.List.{list_all};
-ghost use Rattle.term_text.specs.LineEnds.{ends_line};
-ghost use Rattle.ansi_text.specs.Ansi.{ansi};
+ghost use Rattle.std.specs.Prelude.{◌≡◌, ◌≢◌, List, ℕ, string_bytes, Result, Err, true};
+ghost use Rattle.ansi_text.specs.Ansi.{ansi, is_one_line};
 ghost use Rattle.ansi_text.specs.Answers.{GivesLine, GivesLines};
 ghost use Rattle.ansi_text.specs.declared.error.Error.TheVariants.{Utf8Error};
 
@@ -54,7 +52,7 @@ pub fn line_into_text(
     style: Style,
     line: &[u8],
 ) -> Result<(Line<'static>, Style), Error>
-    requires { list_all (λ b. not (ends_line b)) line.now ≡ true }
+    requires { is_one_line line.now ≡ true }
     ensures { GivesLine style line.now result }
 {
     let (line, style) = ansi_line(alloc, style, line)?;
