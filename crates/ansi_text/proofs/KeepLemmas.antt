@@ -1,9 +1,8 @@
 -- What stands behind a part of a sequence keeps each property that a text keeps when an ASCII byte in front goes.
-use Rattle.std.proofs.Common.{◌≡◌, ◌<◌, ◌≤◌, ◌+◌, ◌-◌, ◌*◌, ◌==◌, ◌||◌, nat_le, ℕ, zero, suc, Bool, true, false, cond, List, [], ◌∷◌, length, refl, ap, sym, ◌∙◌, subst, arith, Some, None, Option, IfSome, unwrap_or, lit<}
+use Rattle.std.proofs.Common.{◌≡◌, ◌<◌, ◌+◌, ◌-◌, ◌*◌, ◌==◌, nat_le, ℕ, Bool, true, false, cond, List, [], ◌∷◌, length, refl, arith, Some, None, Option, IfSome, unwrap_or, lit<}
 use Rattle.std.proofs.lemmas.Bool.Decides.{nat_tests}
 use Rattle.std.proofs.lemmas.Bool.{eqb-true}
 use Rattle.std.specs.Option.{option_map, option_and_then}
-use Rattle.term_text.specs.declared.style.Color.TheVariants.{Rgb, Indexed}
 use Rattle.ansi_text.specs.Numbers.{NumberRead, is_digit, digit, with_digits, number, byte, unless_large, required, optional}
 use Rattle.ansi_text.specs.Items.{ColorRead, ItemRead, next_byte, indexed, rgb, color_of, color, takes_color, item_of, item}
 use Rattle.ansi_text.proofs.NumberLemmas.{here}

@@ -1,5 +1,5 @@
 -- Laws of the definitions: numbers and items that are written are read back, and lines follow one another.
-use Rattle.std.proofs.Common.{◌≡◌, ◌<◌, ◌≤◌, ◌+◌, ◌-◌, ◌*◌, ◌/◌, ◌%◌, ◌^◌, ◌==◌, ◌&&◌, ◌||◌, nat_le, not, ℕ, zero, suc, Bool, true, false, cond, List, [], ◌∷◌, ◌++◌, length, map, refl, ap, ap₂, sym, ◌∙◌, arith, append_assoc, Option, Some, None, unwrap_or}
+use Rattle.std.proofs.Common.{◌≡◌, ◌<◌, ◌≤◌, ◌+◌, ◌-◌, ◌*◌, ◌/◌, ◌%◌, ◌^◌, ◌==◌, ◌&&◌, not, ℕ, Bool, true, false, cond, List, [], ◌∷◌, ◌++◌, length, map, refl, ap, sym, ◌∙◌, arith, append_assoc, Option, Some, None, unwrap_or}
 use Rattle.std.proofs.lemmas.Bool.{false≢true, and_parts}
 use Rattle.std.proofs.lemmas.Bool.Decides.{nat_tests}
 use Rattle.std.proofs.lemmas.Option.{none-some}
@@ -8,7 +8,6 @@ use Rattle.std.specs.Fmt.{decimal}
 use Rattle.std.specs.List.{list_all}
 use Rattle.std.specs.Option.{option_map, option_and_then, is_some}
 use Rattle.term_text.specs.LineEnds.{raw_lines, ends_line, in_front, ended}
-use Rattle.term_text.specs.Text.{LineView}
 use Rattle.term_text.specs.declared.style.Color.{Color}
 use Rattle.term_text.specs.declared.style.Color.TheVariants.{Rgb, Indexed, Reset, Black, Red, Green, Yellow, Blue, Magenta, Cyan, Gray, DarkGray, LightRed, LightGreen, LightYellow, LightBlue, LightMagenta, LightCyan, White}
 use Rattle.term_text.specs.declared.style.Style.{Style}
@@ -16,8 +15,8 @@ use Rattle.ansi_text.specs.declared.item.Item.{Item}
 use Rattle.ansi_text.specs.Numbers.{NumberRead, is_digit, digit, with_digits, number, byte, unless_large, required, optional}
 use Rattle.ansi_text.specs.Items.{ColorRead, ItemRead, indexed, rgb, green, blue, color, takes_color, item_of, item}
 use Rattle.ansi_text.specs.Sequences.{Sequence, with_item, before, items, sequence}
-use Rattle.ansi_text.specs.Pieces.{Piece, sgr, stretch, escape, escape_of, pieces, pieces_within, in_stretch}
-use Rattle.ansi_text.specs.Ansi.{spans, styled, lines_of, is_one_line, ansi_line, ansi_from, after_pieces, after_lines, style_after_line, style_after}
+use Rattle.ansi_text.specs.Pieces.{sgr, stretch, escape_of, pieces, in_stretch}
+use Rattle.ansi_text.specs.Ansi.{styled, lines_of, is_one_line, ansi_line, ansi_from, after_lines, style_after_line, style_after}
 use Rattle.ansi_text.specs.Written.{fits_byte, is_color, color_fits, is_item, written_color, written_behind, written_item, written_others, written}
 use Rattle.ansi_text.proofs.NumberLemmas.{here, with_digits-Some, with_digits-None}
 use Rattle.ansi_text.proofs.SequenceLemmas.{items-end, items-required}
@@ -333,3 +332,45 @@ pub after-only : (style : Style) (a : List ℕ) → is_one_line a ≡ true → s
 unfolding after_lines
 after-only style [] h = refl
 after-only style (b ∷ a) h = ap (λ (ls : List (List ℕ)). after_lines style (map pieces ls)) (raw_lines-one b a h)
+
+-- each line of an input has no end in it
+one_line-in_front : (b : ℕ) (ls : List (List ℕ)) → ends_line b ≡ false → list_all is_one_line ls ≡ true → list_all is_one_line (in_front b ls) ≡ true
+one_line-in_front b [] e h = ap (λ v. (not v && true) && true) e
+one_line-in_front b (l ∷ ls) e h = ap (λ v. (not v && is_one_line l) && list_all is_one_line ls) e ∙ h
+
+one_line-ended : (b : ℕ) (bs : List ℕ) (ls : List (List ℕ)) → list_all is_one_line ls ≡ true → list_all is_one_line (ended b bs ls) ≡ true
+one_line-ended b [] ls h = h
+one_line-ended b (c ∷ cs) ls h = elim (b == 13) as (λ v. list_all is_one_line (cond v (cond (c == 10) ls ([] ∷ ls)) ([] ∷ ls)) ≡ true) [
+  | true ↦ elim (c == 10) as (λ v. list_all is_one_line (cond v ls ([] ∷ ls)) ≡ true) [ true ↦ h | false ↦ h ]
+  | false ↦ h
+]
+
+pub one_line-raw_lines : (bs : List ℕ) → list_all is_one_line (raw_lines bs) ≡ true
+unfolding raw_lines
+one_line-raw_lines [] = refl
+one_line-raw_lines (b ∷ bs) = go (ends_line b) refl (one_line-raw_lines bs)
+  where
+    go : (v : Bool) → ends_line b ≡ v → list_all is_one_line (raw_lines bs) ≡ true
+        → list_all is_one_line (cond v (ended b bs (raw_lines bs)) (in_front b (raw_lines bs))) ≡ true
+    go true e h = one_line-ended b bs (raw_lines bs) h
+    go false e h = one_line-in_front b (raw_lines bs) e h
+
+-- the lines of an input, cut off one by one
+lines_of-cut : (bytes line after : List ℕ) → raw_lines bytes ≡ line ∷ raw_lines after → lines_of bytes ≡ line ∷ raw_lines after
+unfolding raw_lines
+lines_of-cut [] line after e = absurd (cons_none line (raw_lines after) e)
+  where
+    cons_none : (x : List ℕ) (xs : List (List ℕ)) → [] ≡ x ∷ xs → ⊥
+    cons_none x xs h = cc
+lines_of-cut (b ∷ bs) line after e = e
+
+pub cut-line : (style : Style) (bytes line after : List ℕ) → raw_lines bytes ≡ line ∷ raw_lines after → 0 < length after
+    → ansi_from style bytes ≡ ansi_line style line ∷ ansi_from (style_after_line style line) after
+unfolding styled
+cut-line style bytes line after e some =
+    ap (λ (ls : List (List ℕ)). styled style (map pieces ls)) (lines_of-cut bytes line after e)
+    ∙ ap (λ (ls : List (List ℕ)). ansi_line style line ∷ styled (style_after_line style line) (map pieces ls)) (sym (lines_of-some after some))
+
+pub cut-last : (style : Style) (bytes line : List ℕ) → raw_lines bytes ≡ line ∷ raw_lines [] → ansi_from style bytes ≡ ansi_line style line ∷ []
+unfolding styled raw_lines
+cut-last style bytes line e = ap (λ (ls : List (List ℕ)). styled style (map pieces ls)) (lines_of-cut bytes line [] e)

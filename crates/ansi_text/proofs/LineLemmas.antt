@@ -1,5 +1,5 @@
 -- Lines that are read stretch by stretch.
-use Rattle.std.proofs.Common.{◌≡◌, ◌<◌, ◌≤◌, ◌-◌, ◌+◌, ◌==◌, ℕ, zero, suc, Bool, true, false, cond, List, [], ◌∷◌, ◌++◌, length, take, drop, get_or, refl, ap, ap₂, sym, ◌∙◌, subst, arith, append_assoc, append-nil, length-drop, take_all, ◌&&◌, Option, Some, None}
+use Rattle.std.proofs.Common.{◌≡◌, ◌<◌, ◌≤◌, ◌-◌, ◌==◌, ℕ, zero, suc, Bool, true, false, cond, List, [], ◌∷◌, ◌++◌, length, take, drop, get_or, refl, ap, ap₂, sym, ◌∙◌, subst, arith, append_assoc, append-nil, length-drop, take_all, ◌&&◌, Option, Some, None}
 use Rattle.std.proofs.lemmas.Bool.{eqb-true, false≢true}
 use Rattle.std.proofs.lemmas.Bool.Decides.{nat_tests}
 use Rattle.std.proofs.lemmas.Str.{is_utf8-from_IsUtf8, IsUtf8-from_is_utf8, IsUtf8-nil}
@@ -10,11 +10,11 @@ use Rattle.term_text.specs.Style.{no_style}
 use Rattle.term_text.specs.Text.{SpanView, LineView}
 use Rattle.term_text.specs.declared.style.Style.{Style}
 use Rattle.ansi_text.specs.Sequences.{Sequence, sequence}
-use Rattle.ansi_text.specs.Pieces.{Piece, sgr, cut, stretch, Escape, escape_of, escape, pieces_within, pieces, first_escape, AtEscape}
+use Rattle.ansi_text.specs.Pieces.{Piece, escape_of, escape, pieces_within, pieces, first_escape, AtEscape}
 use Rattle.ansi_text.specs.Ansi.{after_piece, after_pieces, spans, line_is_text, line_view, ansi_line, style_after_line}
 use Rattle.ansi_text.specs.Lines.{plain_span, pushed}
 use Rattle.ansi_text.specs.Reads.{StyleRead, past_escape}
-use Rattle.ansi_text.proofs.PieceLemmas.{with_stretch, pieces-nil, pieces-escape, pieces-split, AtEscape-first_escape, first_escape-le, escape-le}
+use Rattle.ansi_text.proofs.PieceLemmas.{with_stretch, pieces-escape, pieces-split, AtEscape-first_escape, escape-le}
 
 -- the end is the first place with an escape byte
 pub first_escape-found : (bs : List ℕ) (k : ℕ) → k < length bs → ((j : ℕ) → j < k → (get_or bs j 0 == 27) ≡ true → ⊥) → (get_or bs k 0 == 27) ≡ true → first_escape bs ≡ k

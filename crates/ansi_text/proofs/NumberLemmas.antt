@@ -1,9 +1,7 @@
 -- Decimal numbers.
-use Rattle.std.proofs.Common.{◌≡◌, ◌<◌, ◌≤◌, ◌+◌, ◌-◌, ◌*◌, ◌==◌, ◌&&◌, nat_le, min, ℕ, zero, suc, Bool, true, false, cond, List, [], ◌∷◌, length, refl, ap, sym, ◌∙◌, arith, Some, None, Option}
-use Rattle.std.proofs.lemmas.Bool.Decides.{nat_tests}
+use Rattle.std.proofs.Common.{◌≡◌, ◌≤◌, ◌+◌, ◌-◌, ◌*◌, min, ℕ, Bool, true, false, cond, List, [], ◌∷◌, refl, ap, sym, ◌∙◌, arith, Some, None}
 use Rattle.std.proofs.lemmas.Option.{none-some, cond_some}
-use Rattle.std.specs.Option.{option_map}
-use Rattle.ansi_text.specs.Numbers.{NumberRead, is_digit, digit, with_digits, number}
+use Rattle.ansi_text.specs.Numbers.{NumberRead, is_digit, digit, with_digits}
 use Rattle.ansi_text.specs.Reads.{capped}
 
 -- a number, and what follows it

@@ -1,9 +1,8 @@
 -- The pieces of a line: how they unfold.
-use Rattle.std.proofs.Common.{◌≡◌, ◌<◌, ◌≤◌, ◌+◌, ◌==◌, ℕ, zero, suc, Bool, true, false, cond, List, [], ◌∷◌, ◌++◌, length, take, drop, refl, ap, ap₂, sym, ◌∙◌, subst, arith, Some, None, Option, IfSome, lit<}
+use Rattle.std.proofs.Common.{◌≡◌, ◌≤◌, ◌==◌, ℕ, zero, suc, Bool, true, false, cond, List, [], ◌∷◌, length, take, drop, refl, ap, ap₂, sym, ◌∙◌, subst, arith, Some, None, Option, IfSome}
 use Rattle.std.proofs.lemmas.Bool.{eqb-true}
-use Rattle.ansi_text.specs.declared.item.Item.{Item}
 use Rattle.ansi_text.specs.Sequences.{Sequence, sequence}
-use Rattle.ansi_text.specs.Pieces.{Piece, sgr, cut, stretch, Escape, is_letter, is_bell, beyond, after_dropped, escape_of, escape, in_stretch, pieces_within, pieces, first_escape, AtEscape}
+use Rattle.ansi_text.specs.Pieces.{Piece, sgr, cut, stretch, is_letter, is_bell, beyond, after_dropped, escape_of, escape, in_stretch, pieces_within, pieces, first_escape, AtEscape}
 use Rattle.ansi_text.proofs.KeepLemmas.{Keeps, Behind-from}
 use Rattle.ansi_text.proofs.SequenceLemmas.{kept-sequence}
 

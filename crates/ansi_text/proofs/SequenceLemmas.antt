@@ -1,5 +1,5 @@
 -- SGR sequences: how they unfold, and what stands behind them.
-use Rattle.std.proofs.Common.{◌≡◌, ◌<◌, ◌≤◌, ◌+◌, ◌==◌, ℕ, zero, suc, Bool, true, false, cond, List, [], ◌∷◌, length, refl, ap, sym, ◌∙◌, arith, Some, None, Option, IfSome, lit<}
+use Rattle.std.proofs.Common.{◌≡◌, ◌<◌, ◌≤◌, ◌==◌, ℕ, zero, suc, Bool, true, false, cond, List, [], ◌∷◌, length, refl, ap, sym, ◌∙◌, arith, Some, None, Option, IfSome, lit<}
 use Rattle.std.proofs.lemmas.Bool.{eqb-true}
 use Rattle.std.proofs.lemmas.Option.{none-some, cond_some}
 use Rattle.std.specs.Option.{option_map}
@@ -7,7 +7,7 @@ use Rattle.term_text.specs.declared.style.Style.{Style}
 use Rattle.ansi_text.specs.declared.item.Item.{Item}
 use Rattle.term_text.specs.Style.{reset_style}
 use Rattle.ansi_text.specs.Codes.{after_item}
-use Rattle.ansi_text.specs.Ansi.{after_items, after_sequence}
+use Rattle.ansi_text.specs.Ansi.{after_items}
 use Rattle.ansi_text.specs.Reads.{with_items, with_sequence}
 use Rattle.ansi_text.specs.Numbers.{required}
 use Rattle.ansi_text.specs.Items.{ItemRead, item}

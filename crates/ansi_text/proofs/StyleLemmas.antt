@@ -1,10 +1,10 @@
 -- The style that codes make holds all that they were given: the first style patched by it is it.
-use Rattle.std.proofs.Common.{◌≡◌, ◌<◌, ◌≤◌, ◌+◌, ◌-◌, ◌^◌, ℕ, zero, suc, min, max, List, [], ◌∷◌, Option, Some, None, refl, ap, ap₂, sym, ◌∙◌, arith, w16}
+use Rattle.std.proofs.Common.{◌≡◌, ◌<◌, ◌≤◌, ◌+◌, ◌-◌, ◌^◌, ℕ, min, max, List, [], ◌∷◌, Option, Some, None, refl, ap, ap₂, ◌∙◌, arith, w16}
 use Rattle.std.specs.Int.{bit_at}
 use Rattle.std.specs.Int.RustNames.{bit_and, bit_or}
 use Rattle.std.proofs.lemmas.Nat.{or_lt, and_le_l}
 use Rattle.std.proofs.lemmas.Nat.Bits.{bit_at_and, bit_at_or, bit_at_not, bit_at-lt, bit_at_ones, same_from_bits_below}
-use Rattle.term_text.specs.Style.{less, with_all, or_else, patch, reset_style, with_modifier, without_modifier}
+use Rattle.term_text.specs.Style.{or_else, patch, reset_style, with_modifier, without_modifier}
 use Rattle.term_text.specs.declared.style.Color.{Color}
 use Rattle.term_text.specs.declared.style.Modifier.{Modifier}
 use Rattle.term_text.specs.declared.style.Style.{Style}
@@ -14,7 +14,7 @@ use Rattle.ansi_text.specs.declared.code.AnsiCode.TheVariants as code
 use Rattle.ansi_text.specs.declared.item.Item.{Item}
 use Rattle.ansi_text.specs.Codes.{acts, acts_if_listed, after_item, listed}
 use Rattle.ansi_text.specs.Pieces.{Piece, sgr, cut, stretch}
-use Rattle.ansi_text.specs.Ansi.{after_items, after_sequence, after_piece, after_pieces}
+use Rattle.ansi_text.specs.Ansi.{after_items, after_sequence, after_pieces}
 
 -- a set of the nine modifiers
 abbrev pub IsKnown : ℕ → Type 0

@@ -1,16 +1,14 @@
 -- Texts that are read line by line.
-use Rattle.std.proofs.Common.{◌≡◌, ◌<◌, ◌≤◌, ◌+◌, ◌==◌, ℕ, zero, suc, not, Bool, true, false, cond, List, [], ◌∷◌, ◌++◌, length, map, refl, ap, ap₂, sym, ◌∙◌, subst, arith, append_assoc, append-nil, ◌&&◌, Option, Some, None}
+use Rattle.std.proofs.Common.{◌≡◌, ◌<◌, ◌==◌, ℕ, zero, suc, not, Bool, true, false, cond, List, [], ◌∷◌, ◌++◌, length, map, refl, ap, ap₂, sym, ◌∙◌, subst, arith, append_assoc, append-nil, ◌&&◌, Option, Some, None}
 use Rattle.std.proofs.lemmas.List.Folds.{list_all-append}
-use Rattle.std.specs.List.{list_all}
-use Rattle.std.proofs.lemmas.Bool.{false≢true}
 use Rattle.std.proofs.lemmas.Bool.Decides.{nat_tests}
 use Rattle.term_text.specs.LineEnds.{raw_lines}
 use Rattle.term_text.specs.Style.{no_style}
-use Rattle.term_text.specs.Text.{SpanView, LineView}
+use Rattle.term_text.specs.Text.{LineView}
 use Rattle.term_text.specs.declared.style.Style.{Style}
 use Rattle.ansi_text.specs.Sequences.{Sequence, sequence}
 use Rattle.ansi_text.specs.Pieces.{Piece, sgr, cut, stretch, escape, escape_of, in_stretch, pieces, pieces_within}
-use Rattle.ansi_text.specs.Ansi.{after_sequence, spans, styled, lines_of, line_view, ansi_line, style_after_line, ansi, ansi_from, is_text, line_is_text}
+use Rattle.ansi_text.specs.Ansi.{after_sequence, spans, styled, lines_of, line_view, ansi_line, style_after_line, ansi, is_text, line_is_text}
 use Rattle.ansi_text.specs.Lines.{is_filled, all_filled}
 
 -- what was read of an input: its lines so far, the style, and what is left

@@ -1,6 +1,6 @@
 -- The stretches of a UTF-8 input are UTF-8, since it is cut at ASCII bytes alone.
-use Rattle.std.proofs.Common.{◌≡◌, ◌<◌, ◌≤◌, ◌+◌, ◌-◌, ◌==◌, ℕ, zero, suc, Bool, true, false, cond, List, [], ◌∷◌, ◌++◌, length, take, drop, map, refl, ap, ap₂, sym, ◌∙◌, subst, arith, append_assoc, ◌&&◌, Option, Some, None, IfSome, get_or, get_or-drop, length-append, length-drop, nat_lt, Result, Err}
-use Rattle.std.proofs.Math.Seq.{drop-append-add, take-append_seam, get_or-append_seam}
+use Rattle.std.proofs.Common.{◌≡◌, ◌<◌, ◌≤◌, ◌+◌, ◌==◌, ℕ, zero, suc, Bool, true, false, cond, List, [], ◌∷◌, ◌++◌, length, take, drop, map, refl, ap, ap₂, sym, ◌∙◌, subst, arith, append_assoc, ◌&&◌, Option, Some, None, IfSome, get_or, get_or-drop, length-append, length-drop, nat_lt, Result, Err}
+use Rattle.std.proofs.Math.Seq.{drop-append-add, get_or-append_seam}
 use Rattle.std.proofs.lemmas.Bool.{eqb-true, false≢true}
 use Rattle.std.proofs.lemmas.Bool.Decides.{nat_tests}
 use Rattle.std.proofs.lemmas.Str.{IsUtf8-nil, IsUtf8-take, IsUtf8-drop, IsCharBoundary-after_ascii, IsCharBoundary-before_ascii, IsCharBoundary-end, is_utf8-from_IsUtf8}
@@ -13,8 +13,8 @@ use Rattle.term_text.specs.Text.{SpanView, LineView}
 use Rattle.term_text.specs.declared.style.Style.{Style}
 use Rattle.term_text.proofs.EndLemmas.{raw_lines-split, boundary_first_end, boundary_end, AtEnd-first_end, after_end-drop, after_end-shorter}
 use Rattle.ansi_text.specs.Sequences.{Sequence, sequence}
-use Rattle.ansi_text.specs.Pieces.{Piece, is_letter, is_bell, beyond, after_dropped, escape, escape_of, pieces, pieces_within, first_escape, AtEscape}
-use Rattle.ansi_text.specs.Ansi.{spans, styled, lines_of, ansi_line, style_after_line, ansi_from, is_text, line_is_text}
+use Rattle.ansi_text.specs.Pieces.{is_letter, is_bell, beyond, after_dropped, escape, escape_of, pieces, pieces_within, first_escape, AtEscape}
+use Rattle.ansi_text.specs.Ansi.{spans, styled, ansi_line, style_after_line, ansi_from, is_text, line_is_text}
 use Rattle.ansi_text.specs.Reads.{past_escape}
 use Rattle.ansi_text.specs.declared.error.Error.{Error}
 use Rattle.ansi_text.specs.declared.error.Error.TheVariants.{Utf8Error}

@@ -1,6 +1,6 @@
 -- Text with ANSI colours: the input is cut into lines, each line is divided into pieces, and one fold of all sequences gives
 -- each stretch its style.
-use Rattle.std.specs.Prelude.{ℕ, Bool, not, false, List, [], ◌∷◌, map, Option, Some, None}
+use Rattle.std.specs.Prelude.{ℕ, Bool, not, false, List, [], ◌∷◌, map}
 use Rattle.std.specs.List.{list_all}
 use Rattle.std.specs.Str.{is_utf8}
 use Rattle.term_text.specs.LineEnds.{raw_lines, ends_line}

@@ -6,7 +6,8 @@ use crate::item::Item;
 use std::alloc::{AllocError, Global};
 use term_text::{Color, Modifier, Style};
 
-/// What a number of an SGR sequence stands for.
+/// What a number of an SGR sequence stands for: a set or unset of a modifier or a colour, or a number that is not listed.
+/// `AlternateFonts` stands for no number.
 #[derive(Debug, PartialEq, Drop)]
 pub enum AnsiCode {
     Reset,

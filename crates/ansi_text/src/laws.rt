@@ -4,6 +4,7 @@ ghost use Rattle.std.specs.Prelude.{ℕ, ◌≡◌, ◌==◌, ◌<◌, ◌^◌, 
 ghost use Rattle.std.specs.Fmt.{decimal};
 ghost use Rattle.std.specs.List.{list_all};
 ghost use Rattle.std.specs.Str.{IsUtf8};
+ghost use Rattle.term_text.specs.LineEnds.{raw_lines};
 ghost use Rattle.term_text.specs.Style.{patch};
 ghost use Rattle.term_text.specs.declared.style.Style.{Style};
 ghost use Rattle.ansi_text.specs.declared.item.Item.{Item};
@@ -53,6 +54,14 @@ pub fn one_line_is_the_line_of_its_bytes()
     ensures lf { (style : Style) (a : List ℕ) → is_one_line a ≡ true → ansi_from style (a ++ (10 ∷ [])) ≡ ansi_line style a ∷ [] }
     ensures crlf { (style : Style) (a : List ℕ) → is_one_line a ≡ true → ansi_from style (a ++ (13 ∷ 10 ∷ [])) ≡ ansi_line style a ∷ [] }
     ensures cr { (style : Style) (a : List ℕ) → is_one_line a ≡ true → ansi_from style (a ++ (13 ∷ [])) ≡ ansi_line style a ∷ [] }
+{}
+
+/// The lines that an input is cut into have no end in them, and are read one by one, each begun in the style after those before.
+pub fn lines_are_read_one_by_one()
+    ensures without_ends { (bytes : List ℕ) → list_all is_one_line (raw_lines bytes) ≡ true }
+    ensures first { (style : Style) (bytes line after : List ℕ) → raw_lines bytes ≡ line ∷ raw_lines after → 0 < length after
+        → ansi_from style bytes ≡ ansi_line style line ∷ ansi_from (style_after_line style line) after }
+    ensures last { (style : Style) (bytes line : List ℕ) → raw_lines bytes ≡ line ∷ raw_lines [] → ansi_from style bytes ≡ ansi_line style line ∷ [] }
 {}
 
 /// The style after an input is that after its first line, and then after the rest.

@@ -1,7 +1,7 @@
-use Rattle.std.proofs.Common.{◌≡◌, ◌<◌, ◌∙◌, ap, sym, subst, length, drop, List, ℕ, true, arith}
+use Rattle.std.proofs.Common.{◌≡◌, ◌<◌, ◌∙◌, ap, sym, subst, length, arith}
 use Rattle.std.proofs.lemmas.Bool.Decides.{nat_tests}
 use Rattle.std.proofs.lemmas.Result.{err_from_is_err_and}
-use Rattle.ansi_text.specs.Pieces.{AtEscape, first_escape}
+use Rattle.ansi_text.specs.Pieces.{AtEscape}
 use Rattle.ansi_text.specs.Reads.{StyleRead, past_escape}
 use Rattle.ansi_text.proofs.PieceLemmas.{AtEscape-first_escape}
 use Rattle.ansi_text.proofs.LineLemmas.{Reads-start, Reads-step, Reads-end, Reads-bad, past_escape-shorter}

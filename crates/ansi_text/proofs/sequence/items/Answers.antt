@@ -1,4 +1,4 @@
-use Rattle.std.proofs.Common.{◌∙◌, ap, sym}
+use Rattle.std.proofs.Common.{◌∙◌, ap}
 use Rattle.std.specs.Option.{option_map}
 use Rattle.ansi_text.specs.Reads.{style_read, with_items}
 use Rattle.ansi_text.specs.Sequences.{items}
