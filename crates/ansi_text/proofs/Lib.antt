@@ -1,0 +1,9 @@
+pub mod NumberLemmas
+pub mod KeepLemmas
+pub mod SequenceLemmas
+pub mod PieceLemmas
+pub mod LineLemmas
+pub mod TextLemmas
+pub mod Utf8Lemmas
+pub mod LawLemmas
+pub mod StyleLemmas

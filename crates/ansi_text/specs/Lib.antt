@@ -1,0 +1,11 @@
+pub mod Codes
+pub mod Numbers
+pub mod Items
+pub mod Sequences
+pub mod Pieces
+pub mod Ansi
+pub mod Reads
+pub mod Lines
+pub mod Errors
+pub mod Answers
+pub mod Written
