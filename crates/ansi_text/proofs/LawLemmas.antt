@@ -7,7 +7,7 @@ use Rattle.std.proofs.lemmas.Fmt.{decimal_by_steps}
 use Rattle.std.specs.Fmt.{decimal}
 use Rattle.std.specs.List.{list_all}
 use Rattle.std.specs.Option.{option_map, option_and_then, is_some}
-use Rattle.term_text.specs.LineEnds.{raw_lines, ends_line, in_front, ended}
+use Rattle.term_text.specs.LineEnds.{raw_lines, ends_line, in_front, ended, is_one_line}
 use Rattle.term_text.specs.declared.style.Color.{Color}
 use Rattle.term_text.specs.declared.style.Color.TheVariants.{Rgb, Indexed, Reset, Black, Red, Green, Yellow, Blue, Magenta, Cyan, Gray, DarkGray, LightRed, LightGreen, LightYellow, LightBlue, LightMagenta, LightCyan, White}
 use Rattle.term_text.specs.declared.style.Style.{Style}
@@ -16,7 +16,7 @@ use Rattle.ansi_text.specs.Numbers.{NumberRead, is_digit, digit, with_digits, nu
 use Rattle.ansi_text.specs.Items.{ColorRead, ItemRead, indexed, rgb, green, blue, color, takes_color, item_of, item}
 use Rattle.ansi_text.specs.Sequences.{Sequence, with_item, before, items, sequence}
 use Rattle.ansi_text.specs.Pieces.{sgr, stretch, escape_of, pieces, in_stretch}
-use Rattle.ansi_text.specs.Ansi.{styled, lines_of, is_one_line, ansi_line, ansi_from, after_lines, style_after_line, style_after}
+use Rattle.ansi_text.specs.Ansi.{styled, lines_of, ansi_line, ansi_from, after_lines, style_after_line, style_after}
 use Rattle.ansi_text.specs.Written.{fits_byte, is_color, color_fits, is_item, written_color, written_behind, written_item, written_others, written}
 use Rattle.ansi_text.proofs.NumberLemmas.{here, with_digits-Some, with_digits-None}
 use Rattle.ansi_text.proofs.SequenceLemmas.{items-end, items-required}

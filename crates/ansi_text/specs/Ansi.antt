@@ -1,9 +1,9 @@
 -- Text with ANSI colours: the input is cut into lines, each line is divided into pieces, and one fold of all sequences gives
 -- each stretch its style.
-use Rattle.std.specs.Prelude.{ℕ, Bool, not, false, List, [], ◌∷◌, map}
+use Rattle.std.specs.Prelude.{ℕ, Bool, false, List, [], ◌∷◌, map}
 use Rattle.std.specs.List.{list_all}
 use Rattle.std.specs.Str.{is_utf8}
-use Rattle.term_text.specs.LineEnds.{raw_lines, ends_line}
+use Rattle.term_text.specs.LineEnds.{raw_lines}
 use Rattle.term_text.specs.Style.{no_style, reset_style}
 use Rattle.term_text.specs.Text.{SpanView, LineView}
 use Rattle.term_text.specs.declared.style.Style.{Style}
@@ -15,10 +15,6 @@ use Rattle.ansi_text.specs.Pieces.{Piece, sgr, cut, stretch, pieces}
 abbrev pub lines_of : List ℕ → List (List ℕ)
 lines_of [] = [] ∷ []
 lines_of (b ∷ bs) = raw_lines (b ∷ bs)
-
--- bytes without a line end
-abbrev pub is_one_line : List ℕ → Bool
-is_one_line bytes = list_all (λ b. not (ends_line b)) bytes
 
 -- the style after the items, each acting on the style before it
 unfoldable pub after_items : Style → List Item → Style

@@ -4,14 +4,14 @@ ghost use Rattle.std.specs.Prelude.{ℕ, ◌≡◌, ◌==◌, ◌<◌, ◌^◌, 
 ghost use Rattle.std.specs.Fmt.{decimal};
 ghost use Rattle.std.specs.List.{list_all};
 ghost use Rattle.std.specs.Str.{IsUtf8};
-ghost use Rattle.term_text.specs.LineEnds.{raw_lines};
+ghost use Rattle.term_text.specs.LineEnds.{raw_lines, is_one_line};
 ghost use Rattle.term_text.specs.Style.{patch};
 ghost use Rattle.term_text.specs.declared.style.Style.{Style};
 ghost use Rattle.ansi_text.specs.declared.item.Item.{Item};
 ghost use Rattle.ansi_text.specs.Numbers.{digit, number, required};
 ghost use Rattle.ansi_text.specs.Sequences.{Sequence, sequence};
 ghost use Rattle.ansi_text.specs.Pieces.{Piece, sgr, stretch, pieces};
-ghost use Rattle.ansi_text.specs.Ansi.{after_pieces, ansi_from, ansi_line, is_one_line, is_text, style_after, style_after_line};
+ghost use Rattle.ansi_text.specs.Ansi.{after_pieces, ansi_from, ansi_line, is_text, style_after, style_after_line};
 ghost use Rattle.ansi_text.specs.Written.{is_item, written};
 
 /// A style patched by the style that sequences make of it is that second style. The first style's modifiers are among the nine.

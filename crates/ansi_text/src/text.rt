@@ -1,6 +1,7 @@
 // Whole inputs with ANSI colours, and single lines of one.
 ghost use Rattle.std.specs.Prelude.{◌≡◌, ◌≢◌, List, ℕ, string_bytes, Result, Err, true};
-ghost use Rattle.ansi_text.specs.Ansi.{ansi, is_one_line};
+ghost use Rattle.ansi_text.specs.Ansi.{ansi};
+ghost use Rattle.term_text.specs.LineEnds.{is_one_line};
 ghost use Rattle.ansi_text.specs.Answers.{GivesLine, GivesLines};
 ghost use Rattle.ansi_text.specs.declared.error.Error.TheVariants.{Utf8Error};
 

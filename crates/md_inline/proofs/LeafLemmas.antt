@@ -4,9 +4,8 @@ use Rattle.std.specs.List.{list_all, prefix_len}
 use Rattle.std.proofs.Math.Seq.{drop-length}
 use Rattle.std.proofs.lemmas.Bool.{false≢true}
 use Rattle.std.proofs.lemmas.Bool.Decides.{nat_tests}
-use Rattle.term_text.specs.LineEnds.{ends_line}
+use Rattle.term_text.specs.LineEnds.{ends_line, is_one_line}
 use Rattle.md_lines.specs.Blanks.{is_blank, without_end_blanks}
-use Rattle.md_lines.specs.Lines.{is_one_line}
 use Rattle.md_inline.specs.Leaves.{Kind, Leaf, Cut, Text, leaf, or_text, at_line_end, break_of, line_end, marked, text_more, cut_at, leaves_after}
 
 -- whether a line end stands in front, with blanks before it or not

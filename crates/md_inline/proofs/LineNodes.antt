@@ -8,7 +8,8 @@ use Rattle.std.proofs.lemmas.List.Folds.{list_all-append, list_all-map}
 use Rattle.std.proofs.Math.ListN.{drop_of_length-le}
 use Rattle.std.proofs.Math.Seq.{drop-append-add, drop-append_seam, take-append_seam, take-length}
 use Rattle.md_lines.specs.Blanks.{is_blank, without_end_blanks}
-use Rattle.md_lines.specs.Lines.{LineText, body_of, is_one_line}
+use Rattle.md_lines.specs.Lines.{LineText, body_of}
+use Rattle.term_text.specs.LineEnds.{is_one_line}
 use Rattle.md_lines.proofs.BlankLemmas.{end_blanks, without_end_blanks-end_blanks, end_blanks-all, without_end_blanks-all, without_end_blanks-some}
 use Rattle.md_lines.proofs.LineLemmas.{is_one_line-drop, is_one_line-front}
 use Rattle.md_tree.specs.declared.event.Event.{Event}

@@ -1,6 +1,7 @@
 // The inlines of the lines of a source.
 ghost use Rattle.std.specs.Prelude.{◌≡◌, ◌++◌, [], OnOk, IsTrue, map};
-ghost use Rattle.md_lines.specs.Lines.{body_of, is_one_line};
+ghost use Rattle.md_lines.specs.Lines.{body_of};
+ghost use Rattle.term_text.specs.LineEnds.{is_one_line};
 ghost use Rattle.md_tree.specs.Tree.{Empty, events};
 ghost use Rattle.md_inline.specs.Inlines.{event_of, inlines};
 ghost use Rattle.md_inline.specs.Leaves.{break_of};

@@ -5,8 +5,8 @@ use Rattle.std.proofs.lemmas.Str.{IsCharBoundary-after_ascii, IsCharBoundary-sta
 use Rattle.std.proofs.lemmas.List.{drop_more}
 use Rattle.std.proofs.lemmas.List.Folds.{list_all-append}
 use Rattle.std.proofs.lemmas.Bool.{false≢true}
-use Rattle.term_text.specs.LineEnds.{raw_lines, ends_line, in_front, ended}
-use Rattle.md_lines.specs.Lines.{LineText, line_of, lines_of, deeper, is_one_line}
+use Rattle.term_text.specs.LineEnds.{raw_lines, ends_line, in_front, ended, is_one_line}
+use Rattle.md_lines.specs.Lines.{LineText, line_of, lines_of, deeper}
 
 -- how far the reader of a line has come
 pub record Reads (text : List ℕ) (indent at : ℕ) : Type 0 where

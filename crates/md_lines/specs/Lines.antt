@@ -1,7 +1,6 @@
 -- Lines of Markdown: an indent and a body.
-use Rattle.std.specs.Prelude.{ℕ, ◌+◌, ◌==◌, Bool, true, false, not, if◌then◌else◌, List, [], ◌∷◌, map}
-use Rattle.std.specs.List.{list_all}
-use Rattle.term_text.specs.LineEnds.{ends_line, raw_lines}
+use Rattle.std.specs.Prelude.{ℕ, ◌+◌, ◌==◌, Bool, true, false, if◌then◌else◌, List, [], ◌∷◌, map}
+use Rattle.term_text.specs.LineEnds.{raw_lines}
 
 -- a line is its indent, in columns, and its body
 pub record LineText : Type 0 where
@@ -31,10 +30,6 @@ is_nothing (b ∷ bs) = false
 
 abbrev pub is_empty : LineText → Bool
 is_empty line = is_nothing line.body
-
--- neither LF nor CR stands in these bytes
-abbrev pub is_one_line : List ℕ → Bool
-is_one_line bs = list_all (λ b. not (ends_line b)) bs
 
 -- the body of a line
 abbrev pub body_of : LineText → List ℕ

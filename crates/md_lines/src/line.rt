@@ -1,6 +1,7 @@
 // Lines with an indent and a body.
 ghost use Rattle.std.specs.Prelude.{◌≡◌, IfOk, IsTrue};
-ghost use Rattle.md_lines.specs.Lines.{is_empty, is_one_line, line_of, lines_of};
+ghost use Rattle.md_lines.specs.Lines.{is_empty, line_of, lines_of};
+ghost use Rattle.term_text.specs.LineEnds.{is_one_line};
 
 use std::alloc::{AllocError, Global};
 use std::marker::Model;
@@ -19,7 +20,8 @@ pub struct Line<'a> {
 impl<'a> Model for Line<'a> {
     ghost use Rattle.std.specs.Prelude.{IsTrue};
     ghost use Rattle.std.specs.Str.{IsUtf8};
-    ghost use Rattle.md_lines.specs.Lines.{LineText, is_one_line};
+    ghost use Rattle.md_lines.specs.Lines.{LineText};
+    ghost use Rattle.term_text.specs.LineEnds.{is_one_line};
 
     ghost Value = { LineText };
 

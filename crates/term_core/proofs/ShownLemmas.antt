@@ -1,37 +1,10 @@
 -- Each grapheme of a row takes a column at least.
 use Rattle.std.proofs.Common.{◌≡◌, ℕ, zero, suc, ◌≤◌, Bool, true, false, cond, nat_le, List, [], ◌∷◌, ◌++◌, length, take, drop, refl, arith}
 use Rattle.std.specs.List.{AllByRecursion}
-use Rattle.std.proofs.lemmas.Bool.{and_parts}
-use Rattle.std.proofs.lemmas.Bool.Decides.{nat_tests}
-use Rattle.term_text.specs.declared.style.Style.{Style}
-use Rattle.term_text.specs.Graph.{Grapheme, columns, graphs, visible, is_visible, width_of, grapheme_of, spans_graphs, pieces_of}
-use Rattle.term_text.specs.Text.{SpanView, LineView}
+use Rattle.term_text.specs.Graph.{Grapheme, columns, graphs}
+use Rattle.term_text.specs.Text.{LineView}
 use Rattle.term_text.specs.Wrap.{cut_of, skip_blanks, rest_of, unless_empty, wrap_within, wrap}
-use Rattle.term_text.proofs.CutLemmas.{AllShown}
-
-AllShown-append : (xs ys : List Grapheme) → AllShown xs → AllShown ys → AllShown (xs ++ ys)
-AllShown-append [] ys p q = q
-AllShown-append (x ∷ xs) ys p q = (p.0, AllShown-append xs ys p.1 q)
-
-is_visible-width : (p : List ℕ) → is_visible p ≡ true → 1 ≤ width_of p
-is_visible-width p h = test (width_of p) (and_parts _ _ h).1
-  where
-    test : (w : ℕ) → nat_le 1 w ≡ true → 1 ≤ w
-    test w h = grind (arith, nat_tests)
-
-AllShown-visible : (style : Style) (ps : List (List ℕ)) → AllShown (visible style ps)
-unfolding visible
-AllShown-visible style [] = tt
-AllShown-visible style (p ∷ ps) = go (is_visible p) refl (AllShown-visible style ps)
-  where
-    go : (b : Bool) → is_visible p ≡ b → AllShown (visible style ps) → AllShown (cond b (grapheme_of style p ∷ visible style ps) (visible style ps))
-    go true e k = (is_visible-width p e, k)
-    go false e k = k
-
-AllShown-spans : (under : Style) (spans : List SpanView) → AllShown (spans_graphs under spans)
-unfolding spans_graphs
-AllShown-spans under [] = tt
-AllShown-spans under (span ∷ spans) = AllShown-append _ _ (AllShown-visible _ (pieces_of span)) (AllShown-spans under spans)
+use Rattle.term_text.proofs.CutLemmas.{AllShown, AllShown-spans}
 
 pub AllShown-graphs : (line : LineView) → AllShown (graphs line)
 AllShown-graphs line = AllShown-spans line.style line.spans

@@ -42,7 +42,7 @@ AllShown-stretch : (style : Style) (bs : List ℕ) → AllShown (map (byte_graph
 AllShown-stretch style [] = tt
 AllShown-stretch style (b ∷ bs) = (omega arith, AllShown-stretch style bs)
 
-AllShown-spans : (under : Style) (spans : List SpanView) → AllShown (spans_graphs under spans)
+pub AllShown-spans : (under : Style) (spans : List SpanView) → AllShown (spans_graphs under spans)
 unfolding spans_graphs
 AllShown-spans under [] = tt
 AllShown-spans under (span ∷ spans) = AllShown-append _ _ (AllShown-visible _ (pieces_of span)) (AllShown-spans under spans)

@@ -1,9 +1,14 @@
 -- Lines of a text: it is cut at LF, CRLF and CR.
-use Rattle.std.specs.Prelude.{◌≡◌, ℕ, suc, ◌==◌, Bool, true, ◌||◌, ◌&&◌, List, [], ◌∷◌, if◌then◌else◌}
+use Rattle.std.specs.Prelude.{◌≡◌, ℕ, suc, ◌==◌, Bool, true, not, ◌||◌, ◌&&◌, List, [], ◌∷◌, if◌then◌else◌}
+use Rattle.std.specs.List.{list_all}
 
 -- LF or CR
 abbrev pub ends_line : ℕ → Bool
 ends_line b = b == 10 || b == 13
+
+-- neither LF nor CR stands in these bytes
+abbrev pub is_one_line : List ℕ → Bool
+is_one_line bytes = list_all (λ b. not (ends_line b)) bytes
 
 -- a byte in front of the first line
 abbrev pub in_front : ℕ → List (List ℕ) → List (List ℕ)

@@ -1,5 +1,6 @@
 use Rattle.std.proofs.Common.{◌++◌, ◌==◌, ◌+◌, ap, sym, ◌∙◌, length}
-use Rattle.md_lines.specs.Lines.{LineText, is_one_line}
+use Rattle.md_lines.specs.Lines.{LineText}
+use Rattle.term_text.specs.LineEnds.{is_one_line}
 use Rattle.md_tree.specs.Tree.{Empty, events}
 use Rattle.md_inline.specs.ByLine.{line_then}
 use Rattle.md_inline.proofs.LineNodes.{Writes-step, Writes-all}

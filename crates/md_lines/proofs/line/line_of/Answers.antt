@@ -1,5 +1,5 @@
 use Rattle.std.proofs.Common.{arith, subst, sym, ◌≡◌, true}
-use Rattle.md_lines.specs.Lines.{is_one_line}
+use Rattle.term_text.specs.LineEnds.{is_one_line}
 use Rattle.md_lines.proofs.LineLemmas.{Reads-start, Reads-step, blank_32, blank_9, is_one_line-drop}
 use Rattle.md_lines.proofs.line.line_of.Goals as goal
 use Rattle.md_lines.proofs.line.line_of.Goals.{in-32, in-9}
