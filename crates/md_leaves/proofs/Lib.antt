@@ -1,0 +1,5 @@
+pub mod PlainLemmas
+pub mod CloserLemmas
+pub mod RunLemmas
+pub mod TextLemmas
+pub mod LeafLemmas
