@@ -8,11 +8,14 @@ use Rattle.md_tree.specs.declared.event.Event.{Event}
 use Rattle.md_tree.specs.declared.event.Event.TheVariants.{Start, End}
 use Rattle.md_tree.specs.declared.event.Tag.TheVariants.{Paragraph}
 use Rattle.md_tree.specs.declared.event.TagEnd.TheVariants as end
-use Rattle.md_tree.specs.Tree.{Nodes, Empty, Branch, events, events_then}
+use Rattle.md_tree.specs.declared.event.Tag.{Tag}
+use Rattle.md_tree.specs.declared.event.TagEnd.{TagEnd}
+use Rattle.md_tree.specs.Tree.{Nodes, Empty, Branch, end_of, events, events_then}
 use Rattle.md_tree.proofs.Nodes.{events_then-events}
 use Rattle.md_lines.specs.Lines.{LineText, body_of, is_empty}
 use Rattle.md_inline.specs.Inlines.{inlines}
-use Rattle.md_events.specs.Blocks.{Node, Single, Element, node_then, block, first_block, blocks_after, blocks, paragraph_more}
+use Rattle.md_events.specs.Node.{Node, Single, Element, node_then, block_events}
+use Rattle.md_events.specs.Blocks.{block, first_block, first_paragraph, blocks_after, blocks, paragraph_more}
 
 -- an empty line is passed over
 pub blocks-empty : (line : LineText) (later : List LineText) → is_empty line ≡ true → blocks (line ∷ later) ≡ blocks later
@@ -42,21 +45,26 @@ slice-rest at lines = take_all (length lines - at) (drop at lines) (omega (arith
 pub length-slice : (at : ℕ) (lines : List LineText) → length (take (length lines - at) (drop at lines)) ≡ length lines - at
 length-slice at lines = ap length (slice-rest at lines) ∙ length-drop at lines
 
+-- an element written by its start, its inside and its end
+pub element-written : (t : Tag) (e : TagEnd) (inside : Nodes) (old new : List Event) → e ≡ end_of t → new ≡ ((old ++ Start t ∷ []) ++ events inside) ++ End e ∷ [] → new ≡ old ++ events (node_then (Element t inside) Empty)
+element-written t e inside old new same w =
+    let whole : events_then inside (End (end_of t) ∷ []) ≡ events inside ++ End (end_of t) ∷ [] = events_then-events inside (End (end_of t) ∷ []) in
+    w ∙ rw same (simp append_assoc (ap (λ x. old ++ Start t ∷ x) (sym whole)))
+
 -- what write_paragraph ensures
-pub paragraph-written : (lines source : List LineText) (old new : List Event) (count : ℕ) → 0 < length lines → count ≡ 1 + paragraph_more (drop 1 lines) → source ≡ take count lines → new ≡ ((old ++ Start Paragraph ∷ []) ++ events (inlines (map body_of source))) ++ End end.Paragraph ∷ [] → new ≡ old ++ events (node_then (first_block lines).node Empty)
+pub paragraph-written : (lines source : List LineText) (old new : List Event) (count : ℕ) → 0 < length lines → count ≡ 1 + paragraph_more (drop 1 lines) → source ≡ take count lines → new ≡ ((old ++ Start Paragraph ∷ []) ++ events (inlines (map body_of source))) ++ End end.Paragraph ∷ [] → new ≡ old ++ block_events (first_paragraph lines)
 paragraph-written [] source old new count lt c s w = absurd (omega arith)
 paragraph-written (line ∷ later) source old new count lt c s w =
     let k : count ≡ suc (paragraph_more later) = omega arith in
-    let inside : Nodes = inlines (map body_of (line ∷ take (paragraph_more later) later)) in
-    let whole : events_then inside (End end.Paragraph ∷ []) ≡ events inside ++ End end.Paragraph ∷ [] = events_then-events inside (End end.Paragraph ∷ []) in
-    w ∙ rw (s, k) (simp append_assoc (ap (λ x. old ++ Start Paragraph ∷ x) (sym whole)))
+    let inside : inlines (map body_of source) ≡ inlines (map body_of (line ∷ take (paragraph_more later) later)) = ap (λ x. inlines (map body_of x)) s ∙ ap (λ n. inlines (map body_of (take n (line ∷ later)))) k in
+    element-written Paragraph end.Paragraph _ old new refl (w ∙ ap (λ x. ((old ++ Start Paragraph ∷ []) ++ events x) ++ End end.Paragraph ∷ []) inside)
 
 -- one turn of write_blocks at an empty line
 pub empty-turn : (lines : List LineText) (at : ℕ) (d : LineText) (old out : List Event) → at < length lines → is_empty (get_or lines at d) ≡ true → out ++ events (blocks (drop at lines)) ≡ old → out ++ events (blocks (drop (at + 1) lines)) ≡ old
 empty-turn lines at d old out lt e h =
     ap (λ x. out ++ events x) (sym (ap blocks (drop_more lines at d lt) ∙ blocks-empty (get_or lines at d) (drop (at + 1) lines) e)) ∙ h
 
-block-turn-at : (line : LineText) (rest behind : List LineText) (old out new : List Event) → is_empty line ≡ false → new ≡ out ++ events (node_then (first_block (line ∷ rest)).node Empty) → behind ≡ drop (first_block (line ∷ rest)).more rest → out ++ events (blocks (line ∷ rest)) ≡ old → new ++ events (blocks behind) ≡ old
+block-turn-at : (line : LineText) (rest behind : List LineText) (old out new : List Event) → is_empty line ≡ false → new ≡ out ++ block_events (first_block (line ∷ rest)) → behind ≡ drop (first_block (line ∷ rest)).more rest → out ++ events (blocks (line ∷ rest)) ≡ old → new ++ events (blocks behind) ≡ old
 block-turn-at line rest behind old out new e w y h =
     let node : Node = (first_block (line ∷ rest)).node in
     let more : Nodes = blocks (drop (first_block (line ∷ rest)).more rest) in
@@ -72,7 +80,7 @@ at_first : (at k more : ℕ) → k ≡ more + 1 → at + k ≡ (at + 1) + more
 at_first at k more e = omega arith
 
 -- one turn at a block
-pub block-turn : (lines : List LineText) (at k : ℕ) (d : LineText) (old out new : List Event) → at < length lines → is_empty (get_or lines at d) ≡ false → new ≡ out ++ events (node_then (first_block (take (length lines - at) (drop at lines))).node Empty) → k ≡ (first_block (take (length lines - at) (drop at lines))).more + 1 → out ++ events (blocks (drop at lines)) ≡ old → new ++ events (blocks (drop (at + k) lines)) ≡ old
+pub block-turn : (lines : List LineText) (at k : ℕ) (d : LineText) (old out new : List Event) → at < length lines → is_empty (get_or lines at d) ≡ false → new ≡ out ++ block_events (first_block (take (length lines - at) (drop at lines))) → k ≡ (first_block (take (length lines - at) (drop at lines))).more + 1 → out ++ events (blocks (drop at lines)) ≡ old → new ++ events (blocks (drop (at + k) lines)) ≡ old
 block-turn lines at k d old out new lt e w c h =
     let s : drop at lines ≡ get_or lines at d ∷ drop (at + 1) lines = drop_more lines at d lt in
     let w' = rw (slice-rest at lines, s) at w in

@@ -7,5 +7,12 @@ pub use Rattle.md_lines.specs.Lines
 pub use Rattle.md_inline.specs.Source
 pub use Rattle.md_inline.specs.Leaves
 pub use Rattle.md_inline.specs.Inlines
+pub use Rattle.md_rules.specs.Texts
+pub use Rattle.md_rules.specs.Shallow
+pub use Rattle.md_rules.specs.Attributes
+pub use Rattle.md_rules.specs.Headings
+pub mod Node
+pub mod LeafBlocks
 pub mod Blocks
+pub mod Written
 pub mod Built

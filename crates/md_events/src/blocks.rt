@@ -1,15 +1,22 @@
 // Blocks: the lines of a document as events.
 ghost use Rattle.std.specs.Prelude.{◌≡◌, ◌++◌, ◌+◌, ◌<◌, ◌≤◌, IfOk, OnOk, length};
-ghost use Rattle.md_tree.specs.Tree.{Empty, events};
-ghost use Rattle.md_events.specs.Blocks.{blocks, first_block, node_then, paragraph_more};
+ghost use Rattle.md_tree.specs.Tree.{events};
+ghost use Rattle.md_events.specs.Node.{block_events};
+ghost use Rattle.md_events.specs.Blocks.{blocks, first_block, first_paragraph, interrupts, paragraph_more};
 
+use crate::leaf_blocks::write_leaf_block;
 use md_inline::write_inlines;
 use md_lines::Line;
+use md_rules::heading_level;
 use md_tree::{Event, Tag, TagEnd};
-use std::alloc::AllocError;
+use std::alloc::{AllocError, Global};
 
 /// Appends the events of the blocks of lines.
-pub fn write_blocks<'a>(lines: &[Line<'a>], out: &mut Vec<Event<'a>>) -> Result<(), AllocError>
+pub fn write_blocks<'a>(
+    alloc: Global,
+    lines: &[Line<'a>],
+    out: &mut Vec<Event<'a>>,
+) -> Result<(), AllocError>
     ensures { OnOk result (out.new.items ≡ out.old.items ++ events (blocks lines.now)) }
 {
     let mut at = 0;
@@ -17,24 +24,52 @@ pub fn write_blocks<'a>(lines: &[Line<'a>], out: &mut Vec<Event<'a>>) -> Result<
         if lines[at].is_empty() {
             at += 1;
         } else {
-            at += write_paragraph(&lines[at..], out)?;
+            at += write_block(alloc, &lines[at..], out)?;
         }
     }
     Ok(())
 }
 
-/// Appends the events of the paragraph at the first line, and tells how many lines it takes.
-fn write_paragraph<'a>(lines: &[Line<'a>], out: &mut Vec<Event<'a>>) -> Result<usize, AllocError>
+/// Appends the events of the block at the first line, and tells how many lines it takes.
+fn write_block<'a>(
+    alloc: Global,
+    lines: &[Line<'a>],
+    out: &mut Vec<Event<'a>>,
+) -> Result<usize, AllocError>
     requires { 0 < length lines.now }
-    ensures written { OnOk result (out.new.items ≡ out.old.items ++ events (node_then (first_block lines.now).node Empty)) }
+    ensures written { OnOk result (out.new.items ≡ out.old.items ++ block_events (first_block lines.now)) }
     ensures lines { IfOk result (λ n. n ≡ (first_block lines.now).more + 1) }
+    ensures within { IfOk result (λ n. n ≤ length lines.now) }
+{
+    match write_leaf_block(alloc, lines, out)? {
+        Some(count) => Ok(count),
+        None => write_paragraph(alloc, lines, out),
+    }
+}
+
+/// Appends the events of the paragraph at the first line, and tells how many lines it takes.
+fn write_paragraph<'a>(
+    alloc: Global,
+    lines: &[Line<'a>],
+    out: &mut Vec<Event<'a>>,
+) -> Result<usize, AllocError>
+    requires { 0 < length lines.now }
+    ensures written { OnOk result (out.new.items ≡ out.old.items ++ block_events (first_paragraph lines.now)) }
+    ensures lines { IfOk result (λ n. n ≡ (first_paragraph lines.now).more + 1) }
     ensures within { IfOk result (λ n. n ≤ length lines.now) }
 {
     let count = 1 + paragraph_more(&lines[1..]);
     out.push(Event::Start(Tag::Paragraph))?;
-    write_inlines(&lines[..count], out)?;
+    write_inlines(alloc, &lines[..count], out)?;
     out.push(Event::End(TagEnd::Paragraph))?;
     Ok(count)
+}
+
+/// Whether a paragraph ends at this line, since another block begins there.
+fn interrupts(line: &Line) -> bool
+    ensures { result ≡ interrupts line.now }
+{
+    heading_level(line).is_some()
 }
 
 /// How many of the lines go on with a paragraph before them.
@@ -44,7 +79,11 @@ fn paragraph_more(lines: &[Line]) -> usize
     ensures within { result ≤ length lines.now }
 {
     let mut at = 0;
-    while at < lines.len() && !lines[at].is_empty() {
+    while at < lines.len() {
+        let line = &lines[at];
+        if line.is_empty() || interrupts(line) {
+            break;
+        }
         at += 1;
     }
     at

@@ -1,20 +1,26 @@
 // The forms of the dialect that are built.
 ghost use Rattle.std.specs.Prelude.{◌≡◌};
-ghost use Rattle.std.specs.List.{list_any};
+ghost use Rattle.std.specs.List.{list_all, list_any};
 ghost use Rattle.md_lines.specs.Lines.{lines_of};
-ghost use Rattle.md_events.specs.Built.{built, is_deep, is_plain_punctuation, is_unbuilt};
+ghost use Rattle.md_events.specs.Built.{begins_unbuilt, begins_with_three, built, has_pair, is_mark, is_star, is_unbuilt, is_unbuilt_line};
 
-use md_lines::{Line, line_of};
+use md_lines::{Line, is_blank, line_of};
+use md_rules::run_length;
 use term_text::next_line;
 
 /// Whether all forms of the text are built. Takes no memory.
 ///
-/// It is false exactly where the text holds a tab, a CR, an ASCII digit, or an ASCII punctuation character other than
-/// `, . ; ! ? ' "`, or where a nonempty line has an indent of 4 columns or more.
+/// It is false exactly where the text holds a tab, `$`, `<`, `|`, `![` or `[^`, or where a nonempty line has an indent
+/// of 4 columns or more, or its body begins with `>`, `-`, `+`, `:`, an ASCII digit, three backticks, three tildes, or
+/// `*` and a blank, or its body consists of `*`, `_` and blanks alone.
 pub fn built(text: &str) -> bool
     ensures { result ≡ built text.now }
 {
-    !has_unbuilt_byte(text.as_bytes()) && !has_deep_line(text)
+    let bytes = text.as_bytes();
+    !has_unbuilt_byte(bytes)
+        && !has_pair(b'!', b'[', bytes)
+        && !has_pair(b'[', b'^', bytes)
+        && !has_unbuilt_line(text)
 }
 
 fn has_unbuilt_byte(bytes: &[u8]) -> bool
@@ -23,33 +29,35 @@ fn has_unbuilt_byte(bytes: &[u8]) -> bool
     bytes.iter().any(|b| is_unbuilt(*b))
 }
 
-/// Whether a byte begins a form that is not built; most bytes are letters and spaces, which the first test tells.
+/// Whether a byte begins a form that is not built.
 fn is_unbuilt(b: u8) -> bool
     ensures { result ≡ is_unbuilt b }
 {
-    if b.is_ascii_alphabetic() || b == b' ' {
-        return false;
-    }
-    b == b'\t'
-        || b == b'\r'
-        || b.is_ascii_digit()
-        || b.is_ascii_punctuation() && !is_plain_punctuation(b)
+    matches!(b, b'\t' | b'$' | b'<' | b'|')
 }
 
-fn is_plain_punctuation(b: u8) -> bool
-    ensures { result ≡ is_plain_punctuation b }
+/// Whether these two bytes stand somewhere, one behind the other.
+fn has_pair(first: u8, second: u8, bytes: &[u8]) -> bool
+    ensures { result ≡ has_pair first second bytes.now }
 {
-    matches!(b, b',' | b'.' | b';' | b'!' | b'?' | b'\'' | b'"')
+    let mut at = 0;
+    while at < bytes.len() {
+        if bytes[at] == first && at + 1 < bytes.len() && bytes[at + 1] == second {
+            return true;
+        }
+        at += 1;
+    }
+    false
 }
 
-/// Whether a nonempty line of the text has an indent of 4 columns or more.
-fn has_deep_line(text: &str) -> bool
-    ensures { result ≡ list_any is_deep (lines_of text.now) }
+/// Whether a line of the text begins a form that is not built.
+fn has_unbuilt_line(text: &str) -> bool
+    ensures { result ≡ list_any is_unbuilt_line (lines_of text.now) }
 {
     let mut rest = text;
     while !rest.is_empty() {
         let (line, after) = next_line(rest);
-        if is_deep(&line_of(line)) {
+        if is_unbuilt_line(&line_of(line)) {
             return true;
         }
         rest = after;
@@ -57,8 +65,45 @@ fn has_deep_line(text: &str) -> bool
     false
 }
 
-fn is_deep(line: &Line) -> bool
-    ensures { result ≡ is_deep line.now }
+fn is_unbuilt_line(line: &Line) -> bool
+    ensures { result ≡ is_unbuilt_line line.now }
 {
-    line.indent >= 4 && !line.is_empty()
+    let body = line.body.as_bytes();
+    !line.is_empty() && (line.indent >= 4 || begins_unbuilt(body) || has_stars_alone(body))
+}
+
+fn begins_unbuilt(body: &[u8]) -> bool
+    ensures { result ≡ begins_unbuilt body.now }
+{
+    if body.is_empty() {
+        return false;
+    }
+    is_mark(body[0])
+        || begins_with_three(b'`', body)
+        || begins_with_three(b'~', body)
+        || body[0] == b'*' && body.len() > 1 && is_blank(body[1])
+}
+
+fn is_mark(b: u8) -> bool
+    ensures { result ≡ is_mark b }
+{
+    matches!(b, b'>' | b'-' | b'+' | b':') || b.is_ascii_digit()
+}
+
+fn begins_with_three(mark: u8, body: &[u8]) -> bool
+    ensures { result ≡ begins_with_three mark body.now }
+{
+    run_length(mark, body) >= 3
+}
+
+fn has_stars_alone(body: &[u8]) -> bool
+    ensures { result ≡ list_all is_star body.now }
+{
+    body.iter().all(|b| is_star(*b))
+}
+
+fn is_star(b: u8) -> bool
+    ensures { result ≡ is_star b }
+{
+    b == b'*' || b == b'_' || is_blank(b)
 }

@@ -4,6 +4,7 @@
 mod blocks;
 mod forms;
 pub mod laws;
+mod leaf_blocks;
 mod reader;
 
 pub use forms::built;

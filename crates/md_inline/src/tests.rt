@@ -8,7 +8,7 @@ use std::test::Fail;
 fn shown(alloc: Global, text: &str) -> Result<String, AllocError> {
     let lines = lines_of(alloc, text)?;
     let mut events = Vec::new(alloc);
-    write_inlines(lines.as_slice(), &mut events)?;
+    write_inlines(alloc, lines.as_slice(), &mut events)?;
     let mut shown = String::new(alloc);
     for event in events.as_slice() {
         match event {

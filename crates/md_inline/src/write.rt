@@ -9,13 +9,17 @@ ghost use Rattle.md_inline.specs.ByLine.{line_then};
 
 use md_lines::{Line, without_end_blanks};
 use md_tree::Event;
-use std::alloc::AllocError;
+use std::alloc::{AllocError, Global};
 use term_text::CowStr;
 
 /// Appends the events of the inlines of a source, which has these lines; the texts borrow from them.
 ///
 /// After want of memory some of the events may have been appended.
-pub fn write_inlines<'a>(lines: &[Line<'a>], out: &mut Vec<Event<'a>>) -> Result<(), AllocError>
+pub fn write_inlines<'a>(
+    _alloc: Global,
+    lines: &[Line<'a>],
+    out: &mut Vec<Event<'a>>,
+) -> Result<(), AllocError>
     ensures { OnOk result (out.new.items ≡ out.old.items ++ events (inlines (map body_of lines.now))) }
 {
     let mut at = 0;

@@ -1,0 +1,4 @@
+pub mod Texts
+pub mod Shallow
+pub mod Attributes
+pub mod Headings

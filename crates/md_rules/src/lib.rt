@@ -1,0 +1,11 @@
+//! The rules of Markdown's blocks: what a line begins.
+#![tactic(auto)]
+
+mod attributes;
+mod heading;
+mod shallow;
+mod texts;
+
+pub use attributes::{Attribute, Attributes};
+pub use heading::{Heading, heading_level, heading_of};
+pub use texts::run_length;
