@@ -1,6 +1,8 @@
 -- Blocks begin lines of their own.
 use Rattle.std.proofs.Common.{◌≡◌, List, [], ◌∷◌, ◌++◌, Bool, true, false, not, ◌&&◌, refl}
 use Rattle.md_tree.specs.declared.event.Event.TheVariants as event
+use Rattle.md_tree.specs.declared.event.HeadingLevel.{HeadingLevel}
+use Rattle.md_tree.specs.declared.event.Tag.{Tag}
 use Rattle.md_tree.specs.declared.event.Tag.TheVariants as tag
 use Rattle.md_tree.specs.declared.place.Holds.{Holds}
 use Rattle.md_tree.specs.declared.place.Holds.TheVariants as level
@@ -8,14 +10,17 @@ use Rattle.md_tree.specs.declared.place.Place.{Place}
 use Rattle.md_tree.specs.Tree.{Nodes, Empty, Leaf, Branch}
 use Rattle.md_tree.specs.Good.{good, good_at, holds_inlines, holds_text, holds_soft_break, place_inside, place_after, place_after_leaf, document_place}
 use Rattle.md_tree.proofs.Nodes.{and_left, and_right, and_false}
+use Rattle.md_table.specs.Sheet.{Sheet}
 use Rattle.md_text.specs.declared.environment.Environment.{Environment}
 use Rattle.md_text.specs.declared.environment.Spacing.{Spacing}
 use Rattle.md_text.specs.declared.environment.Fresh.{Fresh}
 use Rattle.md_text.specs.declared.environment.Fresh.TheVariants as fresh
 use Rattle.md_text.specs.Marks.{Mark, Open, Put, Pad, begins_line}
-use Rattle.md_text.specs.Laid.{Laid, with_due}
-use Rattle.md_text.specs.Environment.{first_environment, first_spacing}
-use Rattle.md_text.specs.Blocks.{is_fresh, paragraph}
+use Rattle.md_text.specs.Laid.{Laid}
+use Rattle.md_text.specs.Look.{Look}
+use Rattle.md_text.specs.Environment.{first_environment, first_spacing, environment_inside}
+use Rattle.md_text.specs.Headings.{heading}
+use Rattle.md_text.specs.Blocks.{is_fresh, paragraph, enter, leave}
 use Rattle.md_text.specs.Layout.{layout, document_layout}
 
 -- the levels outside lines: they hold neither inlines nor texts
@@ -75,112 +80,123 @@ paragraph-opens env false fresh.No any r = refl
 paragraph-opens env false fresh.Marker any r = cc
 paragraph-opens env false fresh.Prefix any r = cc
 
--- the spacing state behind a paragraph
-abbrev behind_paragraph : Environment → Spacing → Nodes → Spacing
-behind_paragraph env spacing inside = with_due true (layout env (paragraph env spacing).after inside).after
+heading-opens : (sheet : Sheet) (env : Environment) (due : Bool) (f : Fresh) (any : Bool) (level : HeadingLevel) →
+    opens (heading sheet env (record { due = due; fresh = f; any_line = any }) level).marks ≡ true
+heading-opens sheet env true f any level = refl
+heading-opens sheet env false f any level = refl
 
-behind_paragraph-ready : (env : Environment) (spacing : Spacing) (inside : Nodes) → Ready (behind_paragraph env spacing inside)
-behind_paragraph-ready env spacing inside = and_false _
+-- what is laid out inside an element
+abbrev within : Look → Environment → Spacing → Tag → Nodes → Laid
+within look env s t inside = layout look (environment_inside look.sheet env t) (enter look.sheet env s t).after inside
 
--- what begins as a paragraph, and then nodes that begin lines
-paragraph-begins : (env : Environment) (spacing : Spacing) (inside rest : Nodes) → Ready spacing →
-    Begins (layout env (behind_paragraph env spacing inside) rest) → Begins (layout env spacing (Branch tag.Paragraph inside rest))
-paragraph-begins env spacing inside rest r next =
-    let a = paragraph env spacing in
-    let b = layout env a.after inside in
-    let d = layout env (behind_paragraph env spacing inside) rest in
+-- the spacing state behind an element
+abbrev behind : Look → Environment → Spacing → Tag → Nodes → Spacing
+behind look env s t inside = (leave look env (within look env s t inside).after t).after
+
+-- an element that begins with an Open, and then nodes that begin lines
+opening-begins : (look : Look) (env : Environment) (s : Spacing) (t : Tag) (inside rest : Nodes) →
+    opens (enter look.sheet env s t).marks ≡ true →
+    Begins (layout look env (behind look env s t inside) rest) → Begins (layout look env s (Branch t inside rest))
+opening-begins look env s t inside rest h next =
+    let a = enter look.sheet env s t in
+    let b = within look env s t inside in
+    let c = leave look env b.after t in
     record {
-      starts = opens-append a.marks (b.marks ++ []) d.marks (paragraph-opens env spacing.due spacing.fresh spacing.any_line r);
+      starts = opens-append a.marks (b.marks ++ c.marks) (layout look env c.after rest).marks h;
       ready = next.ready;
     }
 
--- what is only its inside, and then nodes that begin lines
-inside-begins : (env : Environment) (spacing : Spacing) (inside rest : Nodes) →
-    Begins (layout env spacing inside) → Begins (layout env (layout env spacing inside).after rest) →
-    Begins (layout env spacing (Branch tag.DefinitionList inside rest))
-inside-begins env spacing inside rest first next =
-    let b = layout env spacing inside in
-    let d = layout env b.after rest in
+-- an element whose parts begin lines, and then nodes that do
+parts-begin : (look : Look) (env : Environment) (s : Spacing) (t : Tag) (inside rest : Nodes) →
+    begins_line (enter look.sheet env s t).marks ≡ true → begins_line (within look env s t inside).marks ≡ true →
+    begins_line (leave look env (within look env s t inside).after t).marks ≡ true →
+    Begins (layout look env (behind look env s t inside) rest) → Begins (layout look env s (Branch t inside rest))
+parts-begin look env s t inside rest h i k next =
+    let a = enter look.sheet env s t in
+    let b = within look env s t inside in
+    let c = leave look env b.after t in
     record {
-      starts = starts-append (b.marks ++ []) d.marks (starts-append b.marks [] first.starts refl) next.starts;
+      starts = starts-append (a.marks ++ (b.marks ++ c.marks)) (layout look env c.after rest).marks
+          (starts-append a.marks (b.marks ++ c.marks) h (starts-append b.marks c.marks i k)) next.starts;
       ready = next.ready;
     }
 
 -- good nodes outside lines begin lines
-pub layout-begins : (t : Nodes) (env : Environment) (s : Spacing) (p : Place) → outside_lines p.holds ≡ true → good_at p t ≡ true →
-    Ready s → Begins (layout env s t)
-layout-begins Empty env s p o g r = record { starts = refl; ready = r }
-layout-begins (Leaf (event.Start t) rest) env s p o g r = cc
-layout-begins (Leaf (event.End e) rest) env s p o g r = cc
-layout-begins (Leaf (event.Text bytes) rest) env s p o g r = absurd (no_text p.holds o (and_left _ _ g))
-layout-begins (Leaf event.SoftBreak rest) env s p o g r = absurd (no_soft_break p.holds o (and_left _ _ g))
-layout-begins (Leaf event.HardBreak rest) env s p o g r = absurd (no_inlines p.holds o (and_left _ _ g))
-layout-begins (Leaf e rest) env s p o g r = layout-begins rest env s (place_after_leaf p) o (and_right _ _ g) r
-layout-begins (Branch tag.Emphasis inside rest) env s p o g r = absurd (no_inlines p.holds o (and_left _ _ g))
-layout-begins (Branch tag.Strong inside rest) env s p o g r = absurd (no_inlines p.holds o (and_left _ _ g))
-layout-begins (Branch tag.Strikethrough inside rest) env s p o g r = absurd (no_inlines p.holds o (and_left _ _ g))
-layout-begins (Branch tag.Superscript inside rest) env s p o g r = absurd (no_inlines p.holds o (and_left _ _ g))
-layout-begins (Branch tag.Subscript inside rest) env s p o g r = absurd (no_inlines p.holds o (and_left _ _ g))
-layout-begins (Branch (tag.Image dest) inside rest) env s p o g r = absurd (no_inlines p.holds o (and_left _ _ g))
-layout-begins (Branch (tag.Link dest) inside rest) env s p o g r = absurd (no_inlines p.holds o (and_left _ _ (and_left _ _ g)))
-layout-begins (Branch tag.Paragraph inside rest) env s p o g r =
-    paragraph-begins env s inside rest r
-    (layout-begins rest env (behind_paragraph env s inside) (place_after p tag.Paragraph) o (and_right _ _ (and_right _ _ g)) (behind_paragraph-ready env s inside))
-layout-begins (Branch (tag.Heading h id classes attrs) inside rest) env s p o g r =
-    paragraph-begins env s inside rest r
-    (layout-begins rest env (behind_paragraph env s inside) (place_after p (tag.Heading h id classes attrs)) o (and_right _ _ (and_right _ _ g)) (behind_paragraph-ready env s inside))
-layout-begins (Branch (tag.CodeBlock kind) inside rest) env s p o g r =
-    paragraph-begins env s inside rest r
-    (layout-begins rest env (behind_paragraph env s inside) (place_after p (tag.CodeBlock kind)) o (and_right _ _ (and_right _ _ g)) (behind_paragraph-ready env s inside))
-layout-begins (Branch tag.HtmlBlock inside rest) env s p o g r =
-    paragraph-begins env s inside rest r
-    (layout-begins rest env (behind_paragraph env s inside) (place_after p tag.HtmlBlock) o (and_right _ _ (and_right _ _ g)) (behind_paragraph-ready env s inside))
-layout-begins (Branch tag.Item inside rest) env s p o g r =
-    paragraph-begins env s inside rest r
-    (layout-begins rest env (behind_paragraph env s inside) (place_after p tag.Item) o (and_right _ _ (and_right _ _ g)) (behind_paragraph-ready env s inside))
-layout-begins (Branch tag.DefinitionListTitle inside rest) env s p o g r =
-    paragraph-begins env s inside rest r
-    (layout-begins rest env (behind_paragraph env s inside) (place_after p tag.DefinitionListTitle) o (and_right _ _ (and_right _ _ g)) (behind_paragraph-ready env s inside))
-layout-begins (Branch tag.DefinitionListDefinition inside rest) env s p o g r =
-    paragraph-begins env s inside rest r
-    (layout-begins rest env (behind_paragraph env s inside) (place_after p tag.DefinitionListDefinition) o (and_right _ _ (and_right _ _ g)) (behind_paragraph-ready env s inside))
-layout-begins (Branch tag.TableCell inside rest) env s p o g r =
-    paragraph-begins env s inside rest r
-    (layout-begins rest env (behind_paragraph env s inside) (place_after p tag.TableCell) o (and_right _ _ (and_right _ _ g)) (behind_paragraph-ready env s inside))
-layout-begins (Branch tag.MetadataBlock inside rest) env s p o g r =
-    paragraph-begins env s inside rest r
-    (layout-begins rest env (behind_paragraph env s inside) (place_after p tag.MetadataBlock) o (and_right _ _ (and_right _ _ g)) (behind_paragraph-ready env s inside))
-layout-begins (Branch (tag.BlockQuote kind) inside rest) env s p o g r =
-    let first : Begins (layout env s inside) = layout-begins inside env s (place_inside p (tag.BlockQuote kind)) refl (and_left _ _ (and_right _ _ g)) r in
-    inside-begins env s inside rest first
-    (layout-begins rest env (layout env s inside).after (place_after p (tag.BlockQuote kind)) o (and_right _ _ (and_right _ _ g)) first.ready)
-layout-begins (Branch (tag.List start) inside rest) env s p o g r =
-    let first : Begins (layout env s inside) = layout-begins inside env s (place_inside p (tag.List start)) refl (and_left _ _ (and_right _ _ g)) r in
-    inside-begins env s inside rest first
-    (layout-begins rest env (layout env s inside).after (place_after p (tag.List start)) o (and_right _ _ (and_right _ _ g)) first.ready)
-layout-begins (Branch (tag.FootnoteDefinition label) inside rest) env s p o g r =
-    let first : Begins (layout env s inside) = layout-begins inside env s (place_inside p (tag.FootnoteDefinition label)) refl (and_left _ _ (and_right _ _ g)) r in
-    inside-begins env s inside rest first
-    (layout-begins rest env (layout env s inside).after (place_after p (tag.FootnoteDefinition label)) o (and_right _ _ (and_right _ _ g)) first.ready)
-layout-begins (Branch tag.DefinitionList inside rest) env s p o g r =
-    let first : Begins (layout env s inside) = layout-begins inside env s (place_inside p tag.DefinitionList) refl (and_left _ _ (and_right _ _ g)) r in
-    inside-begins env s inside rest first
-    (layout-begins rest env (layout env s inside).after (place_after p tag.DefinitionList) o (and_right _ _ (and_right _ _ g)) first.ready)
-layout-begins (Branch (tag.Table alignments) inside rest) env s p o g r =
-    let first : Begins (layout env s inside) = layout-begins inside env s (place_inside p (tag.Table alignments)) refl (and_left _ _ (and_right _ _ g)) r in
-    inside-begins env s inside rest first
-    (layout-begins rest env (layout env s inside).after (place_after p (tag.Table alignments)) o (and_right _ _ (and_right _ _ g)) first.ready)
-layout-begins (Branch tag.TableHead inside rest) env s p o g r =
-    let first : Begins (layout env s inside) = layout-begins inside env s (place_inside p tag.TableHead) refl (and_left _ _ (and_right _ _ g)) r in
-    inside-begins env s inside rest first
-    (layout-begins rest env (layout env s inside).after (place_after p tag.TableHead) refl (and_right _ _ (and_right _ _ g)) first.ready)
-layout-begins (Branch tag.TableRow inside rest) env s p o g r =
-    let first : Begins (layout env s inside) = layout-begins inside env s (place_inside p tag.TableRow) refl (and_left _ _ (and_right _ _ g)) r in
-    inside-begins env s inside rest first
-    (layout-begins rest env (layout env s inside).after (place_after p tag.TableRow) o (and_right _ _ (and_right _ _ g)) first.ready)
+pub layout-begins : (look : Look) (t : Nodes) (env : Environment) (s : Spacing) (p : Place) → outside_lines p.holds ≡ true → good_at p t ≡ true →
+    Ready s → Begins (layout look env s t)
+layout-begins look Empty env s p o g r = record { starts = refl; ready = r }
+layout-begins look (Leaf (event.Start t) rest) env s p o g r = cc
+layout-begins look (Leaf (event.End e) rest) env s p o g r = cc
+layout-begins look (Leaf (event.Text bytes) rest) env s p o g r = absurd (no_text p.holds o (and_left _ _ g))
+layout-begins look (Leaf (event.Code bytes) rest) env s p o g r = absurd (no_inlines p.holds o (and_left _ _ g))
+layout-begins look (Leaf event.SoftBreak rest) env s p o g r = absurd (no_soft_break p.holds o (and_left _ _ g))
+layout-begins look (Leaf event.HardBreak rest) env s p o g r = absurd (no_inlines p.holds o (and_left _ _ g))
+layout-begins look (Leaf e rest) env s p o g r = layout-begins look rest env s (place_after_leaf p) o (and_right _ _ g) r
+layout-begins look (Branch tag.Emphasis inside rest) env s p o g r = absurd (no_inlines p.holds o (and_left _ _ g))
+layout-begins look (Branch tag.Strong inside rest) env s p o g r = absurd (no_inlines p.holds o (and_left _ _ g))
+layout-begins look (Branch tag.Strikethrough inside rest) env s p o g r = absurd (no_inlines p.holds o (and_left _ _ g))
+layout-begins look (Branch tag.Superscript inside rest) env s p o g r = absurd (no_inlines p.holds o (and_left _ _ g))
+layout-begins look (Branch tag.Subscript inside rest) env s p o g r = absurd (no_inlines p.holds o (and_left _ _ g))
+layout-begins look (Branch (tag.Image dest) inside rest) env s p o g r = absurd (no_inlines p.holds o (and_left _ _ g))
+layout-begins look (Branch (tag.Link dest) inside rest) env s p o g r = absurd (no_inlines p.holds o (and_left _ _ (and_left _ _ g)))
+layout-begins look (Branch tag.Paragraph inside rest) env s p o g r =
+    opening-begins look env s tag.Paragraph inside rest (paragraph-opens env s.due s.fresh s.any_line r)
+    (layout-begins look rest env (behind look env s tag.Paragraph inside) (place_after p tag.Paragraph) o (and_right _ _ (and_right _ _ g)) (and_false _))
+layout-begins look (Branch (tag.Heading h id classes attrs) inside rest) env s p o g r =
+    opening-begins look env s (tag.Heading h id classes attrs) inside rest (heading-opens look.sheet env s.due s.fresh s.any_line h)
+    (layout-begins look rest env (behind look env s (tag.Heading h id classes attrs) inside) (place_after p (tag.Heading h id classes attrs)) o (and_right _ _ (and_right _ _ g)) (and_false _))
+layout-begins look (Branch (tag.CodeBlock kind) inside rest) env s p o g r =
+    opening-begins look env s (tag.CodeBlock kind) inside rest (paragraph-opens env s.due s.fresh s.any_line r)
+    (layout-begins look rest env (behind look env s (tag.CodeBlock kind) inside) (place_after p (tag.CodeBlock kind)) o (and_right _ _ (and_right _ _ g)) (and_false _))
+layout-begins look (Branch tag.HtmlBlock inside rest) env s p o g r =
+    opening-begins look env s tag.HtmlBlock inside rest (paragraph-opens env s.due s.fresh s.any_line r)
+    (layout-begins look rest env (behind look env s tag.HtmlBlock inside) (place_after p tag.HtmlBlock) o (and_right _ _ (and_right _ _ g)) (and_false _))
+layout-begins look (Branch tag.Item inside rest) env s p o g r =
+    opening-begins look env s tag.Item inside rest (paragraph-opens env s.due s.fresh s.any_line r)
+    (layout-begins look rest env (behind look env s tag.Item inside) (place_after p tag.Item) o (and_right _ _ (and_right _ _ g)) (and_false _))
+layout-begins look (Branch tag.DefinitionListTitle inside rest) env s p o g r =
+    opening-begins look env s tag.DefinitionListTitle inside rest (paragraph-opens env s.due s.fresh s.any_line r)
+    (layout-begins look rest env (behind look env s tag.DefinitionListTitle inside) (place_after p tag.DefinitionListTitle) o (and_right _ _ (and_right _ _ g)) (and_false _))
+layout-begins look (Branch tag.DefinitionListDefinition inside rest) env s p o g r =
+    opening-begins look env s tag.DefinitionListDefinition inside rest (paragraph-opens env s.due s.fresh s.any_line r)
+    (layout-begins look rest env (behind look env s tag.DefinitionListDefinition inside) (place_after p tag.DefinitionListDefinition) o (and_right _ _ (and_right _ _ g)) (and_false _))
+layout-begins look (Branch tag.TableCell inside rest) env s p o g r =
+    opening-begins look env s tag.TableCell inside rest (paragraph-opens env s.due s.fresh s.any_line r)
+    (layout-begins look rest env (behind look env s tag.TableCell inside) (place_after p tag.TableCell) o (and_right _ _ (and_right _ _ g)) (and_false _))
+layout-begins look (Branch tag.MetadataBlock inside rest) env s p o g r =
+    opening-begins look env s tag.MetadataBlock inside rest (paragraph-opens env s.due s.fresh s.any_line r)
+    (layout-begins look rest env (behind look env s tag.MetadataBlock inside) (place_after p tag.MetadataBlock) o (and_right _ _ (and_right _ _ g)) (and_false _))
+layout-begins look (Branch (tag.BlockQuote kind) inside rest) env s p o g r =
+    let first : Begins (layout look env s inside) = layout-begins look inside env s (place_inside p (tag.BlockQuote kind)) refl (and_left _ _ (and_right _ _ g)) r in
+    parts-begin look env s (tag.BlockQuote kind) inside rest refl first.starts refl
+    (layout-begins look rest env (layout look env s inside).after (place_after p (tag.BlockQuote kind)) o (and_right _ _ (and_right _ _ g)) first.ready)
+layout-begins look (Branch (tag.List start) inside rest) env s p o g r =
+    let first : Begins (layout look env s inside) = layout-begins look inside env s (place_inside p (tag.List start)) refl (and_left _ _ (and_right _ _ g)) r in
+    parts-begin look env s (tag.List start) inside rest refl first.starts refl
+    (layout-begins look rest env (layout look env s inside).after (place_after p (tag.List start)) o (and_right _ _ (and_right _ _ g)) first.ready)
+layout-begins look (Branch (tag.FootnoteDefinition label) inside rest) env s p o g r =
+    let first : Begins (layout look env s inside) = layout-begins look inside env s (place_inside p (tag.FootnoteDefinition label)) refl (and_left _ _ (and_right _ _ g)) r in
+    parts-begin look env s (tag.FootnoteDefinition label) inside rest refl first.starts refl
+    (layout-begins look rest env (layout look env s inside).after (place_after p (tag.FootnoteDefinition label)) o (and_right _ _ (and_right _ _ g)) first.ready)
+layout-begins look (Branch tag.DefinitionList inside rest) env s p o g r =
+    let first : Begins (layout look env s inside) = layout-begins look inside env s (place_inside p tag.DefinitionList) refl (and_left _ _ (and_right _ _ g)) r in
+    parts-begin look env s tag.DefinitionList inside rest refl first.starts refl
+    (layout-begins look rest env (layout look env s inside).after (place_after p tag.DefinitionList) o (and_right _ _ (and_right _ _ g)) first.ready)
+layout-begins look (Branch (tag.Table alignments) inside rest) env s p o g r =
+    let first : Begins (layout look env s inside) = layout-begins look inside env s (place_inside p (tag.Table alignments)) refl (and_left _ _ (and_right _ _ g)) r in
+    parts-begin look env s (tag.Table alignments) inside rest refl first.starts refl
+    (layout-begins look rest env (layout look env s inside).after (place_after p (tag.Table alignments)) o (and_right _ _ (and_right _ _ g)) first.ready)
+layout-begins look (Branch tag.TableHead inside rest) env s p o g r =
+    let first : Begins (layout look env s inside) = layout-begins look inside env s (place_inside p tag.TableHead) refl (and_left _ _ (and_right _ _ g)) r in
+    parts-begin look env s tag.TableHead inside rest refl first.starts refl
+    (layout-begins look rest env (layout look env s inside).after (place_after p tag.TableHead) refl (and_right _ _ (and_right _ _ g)) first.ready)
+layout-begins look (Branch tag.TableRow inside rest) env s p o g r =
+    let first : Begins (layout look env s inside) = layout-begins look inside env s (place_inside p tag.TableRow) refl (and_left _ _ (and_right _ _ g)) r in
+    parts-begin look env s tag.TableRow inside rest refl first.starts refl
+    (layout-begins look rest env (layout look env s inside).after (place_after p tag.TableRow) o (and_right _ _ (and_right _ _ g)) first.ready)
 
 -- a document's first mark, if there is one, begins a line
-pub document-begins : (t : Nodes) → good t ≡ true → begins_line (document_layout t).marks ≡ true
-document-begins t g =
-    let begins : Begins (document_layout t) = layout-begins t first_environment first_spacing document_place refl g refl in
+pub document-begins : (look : Look) (t : Nodes) → good t ≡ true → begins_line (document_layout look t).marks ≡ true
+document-begins look t g =
+    let begins : Begins (document_layout look t) = layout-begins look t first_environment first_spacing document_place refl g refl in
     begins.starts

@@ -2,11 +2,15 @@
 use Rattle.std.specs.Prelude.{if◌then◌else◌, Bool, true, false, not, ◌&&◌}
 use Rattle.md_tree.specs.declared.event.Tag.{Tag}
 use Rattle.md_tree.specs.declared.event.Tag.TheVariants as tag
+use Rattle.md_table.specs.Sheet.{Sheet}
 use Rattle.md_text.specs.declared.environment.Environment.{Environment}
 use Rattle.md_text.specs.declared.environment.Spacing.{Spacing}
 use Rattle.md_text.specs.declared.environment.Fresh.{Fresh}
 use Rattle.md_text.specs.declared.environment.Fresh.TheVariants as fresh
 use Rattle.md_text.specs.Laid.{Laid, nothing_laid, then_laid, open_laid, gap_laid, with_due}
+use Rattle.md_text.specs.Look.{Look}
+use Rattle.md_text.specs.Headings.{heading, heading_end}
+use Rattle.md_text.specs.Inlines.{link_end}
 
 abbrev pub is_fresh : Fresh → Bool
 is_fresh fresh.No = false
@@ -22,27 +26,28 @@ paragraph env spacing =
 
 -- before what is inside: until they have rows of their own, all that hold inlines or texts begin as a paragraph,
 -- and the others are what is inside them
-abbrev pub enter : Environment → Spacing → Tag → Laid
-enter env spacing tag.Paragraph = paragraph env spacing
-enter env spacing (tag.Heading level id classes attrs) = paragraph env spacing
-enter env spacing (tag.CodeBlock kind) = paragraph env spacing
-enter env spacing tag.HtmlBlock = paragraph env spacing
-enter env spacing tag.Item = paragraph env spacing
-enter env spacing tag.DefinitionListTitle = paragraph env spacing
-enter env spacing tag.DefinitionListDefinition = paragraph env spacing
-enter env spacing tag.TableCell = paragraph env spacing
-enter env spacing tag.MetadataBlock = paragraph env spacing
-enter env spacing _ = nothing_laid spacing
+abbrev pub enter : Sheet → Environment → Spacing → Tag → Laid
+enter sheet env spacing tag.Paragraph = paragraph env spacing
+enter sheet env spacing (tag.Heading level id classes attrs) = heading sheet env spacing level
+enter sheet env spacing (tag.CodeBlock kind) = paragraph env spacing
+enter sheet env spacing tag.HtmlBlock = paragraph env spacing
+enter sheet env spacing tag.Item = paragraph env spacing
+enter sheet env spacing tag.DefinitionListTitle = paragraph env spacing
+enter sheet env spacing tag.DefinitionListDefinition = paragraph env spacing
+enter sheet env spacing tag.TableCell = paragraph env spacing
+enter sheet env spacing tag.MetadataBlock = paragraph env spacing
+enter sheet env spacing _ = nothing_laid spacing
 
 -- behind what is inside: a line is due behind a paragraph, and behind what begins as one
-abbrev pub leave : Spacing → Tag → Laid
-leave spacing tag.Paragraph = nothing_laid (with_due true spacing)
-leave spacing (tag.Heading level id classes attrs) = nothing_laid (with_due true spacing)
-leave spacing (tag.CodeBlock kind) = nothing_laid (with_due true spacing)
-leave spacing tag.HtmlBlock = nothing_laid (with_due true spacing)
-leave spacing tag.Item = nothing_laid (with_due true spacing)
-leave spacing tag.DefinitionListTitle = nothing_laid (with_due true spacing)
-leave spacing tag.DefinitionListDefinition = nothing_laid (with_due true spacing)
-leave spacing tag.TableCell = nothing_laid (with_due true spacing)
-leave spacing tag.MetadataBlock = nothing_laid (with_due true spacing)
-leave spacing _ = nothing_laid spacing
+abbrev pub leave : Look → Environment → Spacing → Tag → Laid
+leave look env spacing tag.Paragraph = nothing_laid (with_due true spacing)
+leave look env spacing (tag.Heading level id classes attrs) = heading_end look.sheet spacing id classes attrs
+leave look env spacing (tag.CodeBlock kind) = nothing_laid (with_due true spacing)
+leave look env spacing tag.HtmlBlock = nothing_laid (with_due true spacing)
+leave look env spacing tag.Item = nothing_laid (with_due true spacing)
+leave look env spacing tag.DefinitionListTitle = nothing_laid (with_due true spacing)
+leave look env spacing tag.DefinitionListDefinition = nothing_laid (with_due true spacing)
+leave look env spacing tag.TableCell = nothing_laid (with_due true spacing)
+leave look env spacing tag.MetadataBlock = nothing_laid (with_due true spacing)
+leave look env spacing (tag.Link dest) = link_end look.sheet spacing dest
+leave look env spacing _ = nothing_laid spacing

@@ -1,12 +1,14 @@
--- What leaves lay out.
+-- What inlines lay out.
 use Rattle.std.specs.Prelude.{ℕ, Bool, true, false, List, [], ◌∷◌, codes}
 use Rattle.std.specs.Str.Lines.{lines}
+use Rattle.term_text.specs.Text.{SpanView}
 use Rattle.md_tree.specs.declared.event.Event.{Event}
 use Rattle.md_tree.specs.declared.event.Event.TheVariants as event
+use Rattle.md_table.specs.Sheet.{Sheet}
 use Rattle.md_text.specs.declared.environment.Environment.{Environment}
 use Rattle.md_text.specs.declared.environment.Spacing.{Spacing}
 use Rattle.md_text.specs.Marks.{plain_span, styled_span}
-use Rattle.md_text.specs.Laid.{Laid, nothing_laid, then_laid, open_laid, join_laid, put_laid}
+use Rattle.md_text.specs.Laid.{Laid, nothing_laid, then_laid, open_laid, join_laid, put_laid, put_all}
 
 -- a text's first line joins, and each later one opens a line
 abbrev pub begin_line : Bool → Environment → Spacing → Laid
@@ -34,9 +36,22 @@ soft_break spacing = put_laid spacing (plain_span (codes " "))
 abbrev pub hard_break : Environment → Spacing → Laid
 hard_break env spacing = open_laid env spacing
 
+-- Code: Join, and Put in the style of code alone
+abbrev pub code : Sheet → Environment → Spacing → List ℕ → Laid
+code sheet env spacing bytes =
+    then_laid (join_laid env spacing) (λ joined. put_laid joined (styled_span bytes sheet.code))
+
+-- behind a link's inlines: the destination in the style of links alone, in plain parentheses behind a blank
+abbrev pub link_spans : Sheet → List ℕ → List SpanView
+link_spans sheet dest = plain_span (codes " (") ∷ styled_span dest sheet.link ∷ plain_span (codes ")") ∷ []
+
+abbrev pub link_end : Sheet → Spacing → List ℕ → Laid
+link_end sheet spacing dest = put_all spacing (link_spans sheet dest)
+
 -- a leaf; those without a row as yet are laid out as nothing
-abbrev pub leaf : Environment → Spacing → Event → Laid
-leaf env spacing (event.Text bytes) = text env spacing bytes
-leaf env spacing event.SoftBreak = soft_break spacing
-leaf env spacing event.HardBreak = hard_break env spacing
-leaf env spacing _ = nothing_laid spacing
+abbrev pub leaf : Sheet → Environment → Spacing → Event → Laid
+leaf sheet env spacing (event.Text bytes) = text env spacing bytes
+leaf sheet env spacing (event.Code bytes) = code sheet env spacing bytes
+leaf sheet env spacing event.SoftBreak = soft_break spacing
+leaf sheet env spacing event.HardBreak = hard_break env spacing
+leaf sheet env spacing _ = nothing_laid spacing

@@ -1,5 +1,6 @@
 -- What a part of a tree lays out, and the words that layouts are made of.
-use Rattle.std.specs.Prelude.{◌==◌, if◌then◌else◌, Bool, true, false, List, [], ◌∷◌, ◌++◌, length}
+use Rattle.std.specs.Prelude.{ℕ, ◌==◌, if◌then◌else◌, Bool, true, false, List, [], ◌∷◌, ◌++◌, length}
+use Rattle.term_text.specs.declared.style.Style.{Style}
 use Rattle.term_text.specs.Text.{SpanView}
 use Rattle.md_text.specs.declared.environment.Environment.{Environment}
 use Rattle.md_text.specs.declared.environment.Spacing.{Spacing}
@@ -19,13 +20,17 @@ abbrev pub then_laid : Laid → (Spacing → Laid) → Laid
 then_laid first next =
     let second = next first.after in record { marks = first.marks ++ second.marks; after = second.after }
 
--- Open: a line of the line style, behind the open quotes' marks
-abbrev pub open_laid : Environment → Spacing → Laid
-open_laid env spacing =
+-- a line of a style, behind quote marks
+abbrev pub open_styled : ℕ → Style → Spacing → Laid
+open_styled quotes style spacing =
     record {
-      marks = Open env.quotes env.line_style ∷ [];
+      marks = Open quotes style ∷ [];
       after = record { due = spacing.due; fresh = fresh.No; any_line = true };
     }
+
+-- Open: a line of the line style, behind the open quotes' marks
+abbrev pub open_laid : Environment → Spacing → Laid
+open_laid env spacing = open_styled env.quotes env.line_style spacing
 
 abbrev pub with_due : Bool → Spacing → Spacing
 with_due due spacing = record { due = due; fresh = spacing.fresh; any_line = spacing.any_line }
@@ -48,3 +53,8 @@ put_laid spacing span =
       marks = Put span ∷ [];
       after = record { due = spacing.due; fresh = fresh.No; any_line = spacing.any_line };
     }
+
+-- spans put one after another
+abbrev pub put_all : Spacing → List SpanView → Laid
+put_all spacing [] = nothing_laid spacing
+put_all spacing (span ∷ spans) = then_laid (put_laid spacing span) (λ behind. put_all behind spans)

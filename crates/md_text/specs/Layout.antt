@@ -7,27 +7,29 @@ use Rattle.md_text.specs.declared.environment.Environment.{Environment}
 use Rattle.md_text.specs.declared.environment.Spacing.{Spacing}
 use Rattle.md_text.specs.Marks.{draws}
 use Rattle.md_text.specs.Laid.{Laid, nothing_laid, then_laid}
+use Rattle.md_text.specs.Look.{Look}
 use Rattle.md_text.specs.Environment.{first_environment, first_spacing, environment_inside}
 use Rattle.md_text.specs.Blocks.{enter, leave}
 use Rattle.md_text.specs.Inlines.{leaf}
 
 -- an element: what stands before, in and behind it
-abbrev pub branch : Environment → Spacing → Tag → (Spacing → Laid) → Laid
-branch env spacing tag inside =
-    then_laid (enter env spacing tag) (λ entered. then_laid (inside entered) (λ behind. leave behind tag))
+abbrev pub branch : Look → Environment → Spacing → Tag → (Spacing → Laid) → Laid
+branch look env spacing tag inside =
+    then_laid (enter look.sheet env spacing tag) (λ entered.
+    then_laid (inside entered) (λ behind. leave look env behind tag))
 
 -- the environment is only handed down: what follows an element has the environment from before it
-abbrev pub layout : Environment → Spacing → Nodes → Laid
-layout env spacing Empty = nothing_laid spacing
-layout env spacing (Leaf e rest) = then_laid (leaf env spacing e) (λ behind. layout env behind rest)
-layout env spacing (Branch tag inside rest) =
-    then_laid (branch env spacing tag (λ entered. layout (environment_inside env tag) entered inside))
-    (λ behind. layout env behind rest)
+abbrev pub layout : Look → Environment → Spacing → Nodes → Laid
+layout look env spacing Empty = nothing_laid spacing
+layout look env spacing (Leaf e rest) = then_laid (leaf look.sheet env spacing e) (λ behind. layout look env behind rest)
+layout look env spacing (Branch tag inside rest) =
+    then_laid (branch look env spacing tag (λ entered. layout look (environment_inside look.sheet env tag) entered inside))
+    (λ behind. layout look env behind rest)
 
 -- the layout of a document
-abbrev pub document_layout : Nodes → Laid
-document_layout tree = layout first_environment first_spacing tree
+abbrev pub document_layout : Look → Nodes → Laid
+document_layout look tree = layout look first_environment first_spacing tree
 
 -- the lines of a document
-abbrev pub document_lines : Nodes → List LineView
-document_lines tree = draws [] (document_layout tree).marks
+abbrev pub document_lines : Look → Nodes → List LineView
+document_lines look tree = draws [] (document_layout look tree).marks

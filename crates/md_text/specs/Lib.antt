@@ -1,6 +1,9 @@
 pub mod Marks
 pub mod Laid
+pub mod Look
 pub mod Environment
+pub mod Headings
+pub mod Words
 pub mod Blocks
 pub mod Inlines
 pub mod Layout

@@ -1,8 +1,9 @@
 // What the layout hands down into elements, and what it passes along.
 ghost use Rattle.std.specs.Prelude.{◌≡◌};
-ghost use Rattle.md_text.specs.Environment.{first_environment, first_spacing, environment_inside};
+ghost use Rattle.md_text.specs.Environment.{first_environment, first_spacing, styled, environment_inside};
 
 use md_events::Tag;
+use md_table::StyleSheet;
 use term_text::Style;
 
 /// What is handed down into elements, and never comes back from them.
@@ -45,11 +46,28 @@ impl Environment {
         }
     }
 
-    /// The environment inside an element: no element that is laid out so far changes it.
-    pub fn inside(self, _tag: &Tag) -> Environment
-        ensures { result ≡ environment_inside self _tag.now }
+    /// The environment inside an element.
+    pub fn inside<S: StyleSheet>(self, sheet: &S, tag: &Tag) -> Environment
+        ensures { result ≡ environment_inside (S.sheet sheet.now) self tag.now }
     {
-        self
+        match tag {
+            Tag::Emphasis => self.styled(Style::new().italic()),
+            Tag::Strong => self.styled(Style::new().bold()),
+            Tag::Strikethrough => self.styled(Style::new().crossed_out()),
+            Tag::Superscript | Tag::Subscript => self.styled(Style::new().dim().italic()),
+            Tag::Link { .. } => self.styled(sheet.link()),
+            _ => self,
+        }
+    }
+
+    /// The inline style with this one over it.
+    fn styled(self, style: Style) -> Environment
+        ensures { result ≡ styled self style }
+    {
+        Environment {
+            inline_style: self.inline_style.patch(style),
+            ..self
+        }
     }
 }
 

@@ -1,7 +1,7 @@
 // The machine that draws the lines of a tree from its events.
 ghost use Rattle.std.specs.Prelude.{◌≡◌, ◌<◌, length, OnOk, IfOk};
 ghost use Rattle.md_text.specs.Marks.{quoted_line, put_last};
-ghost use Rattle.md_text.specs.Laid.{open_laid, gap_laid, join_laid, put_laid};
+ghost use Rattle.md_text.specs.Laid.{open_styled, open_laid, gap_laid, join_laid, put_laid};
 ghost use Rattle.md_text.specs.State.{State, laid, first_state};
 
 use crate::environment::{Environment, Fresh, Spacing};
@@ -11,30 +11,31 @@ use std::marker::Model;
 use term_text::{CowStr, Line, Span, Stack, Style, Text};
 
 mod blocks;
+mod headings;
 mod inlines;
 mod walk;
 
 /// The open elements, the environment and the spacing state here, and the lines so far.
 #[derive(Drop)]
-pub struct Machine<'a> {
+pub struct Machine<'e, 'a> {
     alloc: Global,
-    frames: Stack<Frame>,
+    frames: Stack<Frame<'e, 'a>>,
     environment: Environment,
     spacing: Spacing,
     lines: Vec<Line<'a>>,
 }
 
-impl<'a> Model for Machine<'a> {
+impl<'e, 'a> Model for Machine<'e, 'a> {
     ghost use Rattle.md_text.specs.State.{State};
 
     ghost Value = { State };
 
-    ghost view = { λ m. record { frames = m.frames; environment = m.environment; spacing = m.spacing; lines = m.lines.items } };
+    ghost view = { λ m. record { open_elements = m.frames; environment = m.environment; spacing = m.spacing; lines = m.lines.items } };
 }
 
-impl<'a> Machine<'a> {
+impl<'e, 'a> Machine<'e, 'a> {
     /// A machine at the beginning of a document; takes no memory.
-    pub fn new(alloc: Global) -> Machine<'a>
+    pub fn new(alloc: Global) -> Machine<'e, 'a>
         ensures { result ≡ first_state }
     {
         Machine {
@@ -67,7 +68,14 @@ impl<'a> Machine<'a> {
             line_style,
             ..
         } = self.environment;
-        self.lines.push(begun(self.alloc, quotes, line_style)?)?;
+        self.open_styled(quotes, line_style)
+    }
+
+    /// Begins a line of this style, behind so many quote marks.
+    fn open_styled(&mut self, quotes: usize, style: Style) -> Result<(), AllocError>
+        ensures { OnOk result (self.new ≡ laid self.old (open_styled quotes style self.old.spacing)) }
+    {
+        self.lines.push(begun(self.alloc, quotes, style)?)?;
         self.spacing.fresh = Fresh::No;
         self.spacing.any_line = true;
         Ok(())

@@ -26,6 +26,13 @@ impl<S: StyleSheet> Options<S> {
     {
         Options { styles }
     }
+
+    /// The style sheet.
+    pub fn styles(&self) -> &S
+        ensures { result.now ≡ self.now.styles }
+    {
+        &self.styles
+    }
 }
 
 impl Default for Options<DefaultStyleSheet> {

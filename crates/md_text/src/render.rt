@@ -2,6 +2,7 @@
 ghost use Rattle.std.specs.Prelude.{◌≡◌, IsTrue, IfOk, IfErr};
 ghost use Rattle.md_events.specs.Built.{built};
 ghost use Rattle.md_events.specs.Blocks.{tree};
+ghost use Rattle.md_text.specs.Look.{look_of, default_look};
 ghost use Rattle.md_text.specs.Layout.{document_lines};
 ghost use Rattle.md_text.specs.State.{run, first_state};
 
@@ -19,7 +20,7 @@ use term_text::Text;
 /// The only refusal is `Memory`.
 pub fn from_str<'a>(alloc: Global, input: &'a str) -> Result<Text<'a>, RenderError>
     requires { IsTrue (built input.now) }
-    ensures lines { IfOk result (λ text. text ≡ document_lines (tree input.now)) }
+    ensures lines { IfOk result (λ text. text ≡ document_lines default_look (tree input.now)) }
     ensures memory { IfErr result (λ e. e ≡ RenderError.Memory) }
 {
     from_str_with_options(alloc, input, &Options::default(), &NoHighlight)
@@ -27,7 +28,7 @@ pub fn from_str<'a>(alloc: Global, input: &'a str) -> Result<Text<'a>, RenderErr
 
 /// The lines that the tree of a Markdown text lays out, with these options and this highlighter.
 ///
-/// The forms that are built so far ask nothing of either. The only refusal is `Memory`.
+/// The only refusal is `Memory`, also where it is the highlighter that finds none.
 pub fn from_str_with_options<'a, S: StyleSheet, H: Highlighter>(
     alloc: Global,
     input: &'a str,
@@ -35,19 +36,26 @@ pub fn from_str_with_options<'a, S: StyleSheet, H: Highlighter>(
     highlighter: &H,
 ) -> Result<Text<'a>, RenderError>
     requires { IsTrue (built input.now) }
-    ensures lines { IfOk result (λ text. text ≡ document_lines (tree input.now)) }
+    ensures lines { IfOk result (λ text. text
+        ≡ document_lines (look_of options.now S.sheet (H.known highlighter.now) (H.answer highlighter.now)) (tree input.now)) }
     ensures memory { IfErr result (λ e. e ≡ RenderError.Memory) }
 {
     let events = read(alloc, input)?;
-    let text = laid_out(alloc, events.as_slice())?;
+    let text = laid_out(alloc, events.as_slice(), options, highlighter)?;
     Ok(text)
 }
 
 /// The lines that the events lay out.
-fn laid_out<'a>(alloc: Global, events: &[Event<'a>]) -> Result<Text<'a>, AllocError>
-    ensures { IfOk result (λ text. text ≡ (run events.now first_state).lines) }
+pub(crate) fn laid_out<'a, S: StyleSheet, H: Highlighter>(
+    alloc: Global,
+    events: &[Event<'a>],
+    options: &Options<S>,
+    highlighter: &H,
+) -> Result<Text<'a>, AllocError>
+    ensures { IfOk result (λ text. text
+        ≡ (run (look_of options.now S.sheet (H.known highlighter.now) (H.answer highlighter.now)) events.now first_state).lines) }
 {
     let mut machine = Machine::new(alloc);
-    machine.run(events)?;
+    machine.run(options, highlighter, events)?;
     machine.into_text()
 }

@@ -1,22 +1,30 @@
 // What elements lay out before and behind what is inside them.
 ghost use Rattle.std.specs.Prelude.{◌≡◌, OnOk};
-ghost use Rattle.md_text.specs.Blocks.{paragraph, enter};
-ghost use Rattle.md_text.specs.State.{laid, finished};
+ghost use Rattle.md_text.specs.Look.{look_of};
+ghost use Rattle.md_text.specs.Blocks.{paragraph, enter, leave};
+ghost use Rattle.md_text.specs.State.{laid};
 
 use super::Machine;
 use crate::environment::Fresh;
-use crate::frame::Tail;
+use crate::highlight::Highlighter;
+use crate::options::Options;
 use md_events::Tag;
+use md_table::StyleSheet;
 use std::alloc::AllocError;
 
-impl<'a> Machine<'a> {
+impl<'e, 'a> Machine<'e, 'a> {
     /// What an element lays out before its inside.
-    pub(super) fn enter(&mut self, tag: &Tag) -> Result<(), AllocError>
-        ensures { OnOk result (self.new ≡ laid self.old (enter self.old.environment self.old.spacing tag.now)) }
+    pub(super) fn enter<S: StyleSheet>(
+        &mut self,
+        sheet: &S,
+        tag: &Tag<'a>,
+    ) -> Result<(), AllocError>
+        ensures { OnOk result (self.new
+            ≡ laid self.old (enter (S.sheet sheet.now) self.old.environment self.old.spacing tag.now)) }
     {
         match tag {
+            Tag::Heading { level, .. } => self.heading(sheet, *level),
             Tag::Paragraph
-            | Tag::Heading { .. }
             | Tag::CodeBlock(_)
             | Tag::HtmlBlock
             | Tag::Item
@@ -42,13 +50,36 @@ impl<'a> Machine<'a> {
         Ok(())
     }
 
-    /// What is left to do at an element's end.
-    pub(super) fn finish(&mut self, tail: Tail)
-        ensures { self.new ≡ finished self.old tail }
+    /// What an element lays out behind its inside.
+    pub(super) fn leave<S: StyleSheet, H: Highlighter>(
+        &mut self,
+        options: &Options<S>,
+        _highlighter: &H,
+        tag: &Tag<'a>,
+    ) -> Result<(), AllocError>
+        ensures { OnOk result (self.new
+            ≡ laid self.old (leave (look_of options.now S.sheet (H.known _highlighter.now) (H.answer _highlighter.now)) self.old.environment self.old.spacing tag.now)) }
     {
-        match tail {
-            Tail::Nothing => {}
-            Tail::Due => self.spacing.due = true,
+        match tag {
+            Tag::Heading {
+                id,
+                classes,
+                attrs,
+                ..
+            } => self.heading_end(options.styles(), id, classes, attrs),
+            Tag::Link { dest_url } => self.link_end(options.styles(), dest_url),
+            Tag::Paragraph
+            | Tag::CodeBlock(_)
+            | Tag::HtmlBlock
+            | Tag::Item
+            | Tag::DefinitionListTitle
+            | Tag::DefinitionListDefinition
+            | Tag::TableCell
+            | Tag::MetadataBlock => {
+                self.spacing.due = true;
+                Ok(())
+            }
+            _ => Ok(()),
         }
     }
 }

@@ -1,20 +1,27 @@
-// What leaves lay out.
+// What inlines lay out.
 ghost use Rattle.std.specs.Prelude.{◌≡◌, OnOk};
-ghost use Rattle.md_text.specs.Inlines.{begin_line, text_line, text, soft_break, leaf};
+ghost use Rattle.md_text.specs.Inlines.{begin_line, text_line, text, code, soft_break, link_end, leaf};
 ghost use Rattle.md_text.specs.State.{laid};
 
 use super::Machine;
 use md_events::Event;
+use md_table::StyleSheet;
 use std::alloc::AllocError;
 use term_text::{CowStr, Span};
 
-impl<'a> Machine<'a> {
+impl<'e, 'a> Machine<'e, 'a> {
     /// What a leaf lays out; those without a row as yet are laid out as nothing.
-    pub(super) fn leaf(&mut self, event: &Event<'a>) -> Result<(), AllocError>
-        ensures { OnOk result (self.new ≡ laid self.old (leaf self.old.environment self.old.spacing event.now)) }
+    pub(super) fn leaf<S: StyleSheet>(
+        &mut self,
+        sheet: &S,
+        event: &Event<'a>,
+    ) -> Result<(), AllocError>
+        ensures { OnOk result (self.new
+            ≡ laid self.old (leaf (S.sheet sheet.now) self.old.environment self.old.spacing event.now)) }
     {
         match event {
             Event::Text(content) => self.text(content),
+            Event::Code(content) => self.code(sheet, content),
             Event::SoftBreak => self.soft_break(),
             Event::HardBreak => self.open(),
             _ => Ok(()),
@@ -67,9 +74,33 @@ impl<'a> Machine<'a> {
         if is_first { self.join() } else { self.open() }
     }
 
+    fn code<S: StyleSheet>(&mut self, sheet: &S, content: &CowStr<'a>) -> Result<(), AllocError>
+        ensures { OnOk result (self.new
+            ≡ laid self.old (code (S.sheet sheet.now) self.old.environment self.old.spacing content.now)) }
+    {
+        self.join()?;
+        let text = content.try_clone(self.alloc)?;
+        self.put(Span::styled(text, sheet.code()))
+    }
+
     fn soft_break(&mut self) -> Result<(), AllocError>
         ensures { OnOk result (self.new ≡ laid self.old (soft_break self.old.spacing)) }
     {
         self.put(Span::raw(CowStr::borrowed(" ")))
+    }
+
+    /// A link's destination in parentheses.
+    pub(super) fn link_end<S: StyleSheet>(
+        &mut self,
+        sheet: &S,
+        dest_url: &CowStr<'a>,
+    ) -> Result<(), AllocError>
+        ensures { OnOk result (self.new
+            ≡ laid self.old (link_end (S.sheet sheet.now) self.old.spacing dest_url.now)) }
+    {
+        let destination = dest_url.try_clone(self.alloc)?;
+        self.put(Span::raw(CowStr::borrowed(" (")))?;
+        self.put(Span::styled(destination, sheet.link()))?;
+        self.put(Span::raw(CowStr::borrowed(")")))
     }
 }

@@ -1,55 +1,82 @@
 // The walk over events.
 ghost use Rattle.std.specs.Prelude.{◌≡◌, OnOk};
+ghost use Rattle.md_text.specs.Look.{look_of};
 ghost use Rattle.md_text.specs.State.{started, ended, step, run};
 
 use super::Machine;
-use crate::frame::{Frame, Tail};
+use crate::frame::Frame;
+use crate::highlight::Highlighter;
+use crate::options::Options;
 use md_events::{Event, Tag};
+use md_table::StyleSheet;
 use std::alloc::AllocError;
 
-impl<'a> Machine<'a> {
+impl<'e, 'a> Machine<'e, 'a> {
     /// Lays out what the events say, one after another.
-    pub fn run(&mut self, events: &[Event<'a>]) -> Result<(), AllocError>
-        ensures { OnOk result (self.new ≡ run events.now self.old) }
+    pub fn run<S: StyleSheet, H: Highlighter>(
+        &mut self,
+        options: &Options<S>,
+        highlighter: &H,
+        events: &'e [Event<'a>],
+    ) -> Result<(), AllocError>
+        ensures { OnOk result (self.new
+            ≡ run (look_of options.now S.sheet (H.known highlighter.now) (H.answer highlighter.now)) events.now self.old) }
     {
         for event in events {
-            self.step(event)?;
+            self.step(options, highlighter, event)?;
         }
         Ok(())
     }
 
-    fn step(&mut self, event: &Event<'a>) -> Result<(), AllocError>
-        ensures { OnOk result (self.new ≡ step self.old event.now) }
+    fn step<S: StyleSheet, H: Highlighter>(
+        &mut self,
+        options: &Options<S>,
+        highlighter: &H,
+        event: &'e Event<'a>,
+    ) -> Result<(), AllocError>
+        ensures { OnOk result (self.new
+            ≡ step (look_of options.now S.sheet (H.known highlighter.now) (H.answer highlighter.now)) self.old event.now) }
     {
         match event {
-            Event::Start(tag) => self.start(tag),
-            Event::End(_) => {
-                self.end();
-                Ok(())
-            }
-            leaf => self.leaf(leaf),
+            Event::Start(tag) => self.start(options, highlighter, tag),
+            Event::End(_) => self.end(options, highlighter),
+            leaf => self.leaf(options.styles(), leaf),
         }
     }
 
-    fn start(&mut self, tag: &Tag) -> Result<(), AllocError>
-        ensures { OnOk result (self.new ≡ started self.old tag.now) }
+    fn start<S: StyleSheet, H: Highlighter>(
+        &mut self,
+        options: &Options<S>,
+        _highlighter: &H,
+        tag: &'e Tag<'a>,
+    ) -> Result<(), AllocError>
+        ensures { OnOk result (self.new
+            ≡ started (look_of options.now S.sheet (H.known _highlighter.now) (H.answer _highlighter.now)) self.old tag.now) }
     {
-        self.enter(tag)?;
+        self.enter(options.styles(), tag)?;
         self.frames.push(Frame {
-            tail: Tail::of(tag),
+            tag,
             environment: self.environment,
         })?;
-        self.environment = self.environment.inside(tag);
+        self.environment = self.environment.inside(options.styles(), tag);
         Ok(())
     }
 
     /// The innermost element ends, if there is one.
-    fn end(&mut self)
-        ensures { self.new ≡ ended self.old }
+    fn end<S: StyleSheet, H: Highlighter>(
+        &mut self,
+        options: &Options<S>,
+        highlighter: &H,
+    ) -> Result<(), AllocError>
+        ensures { OnOk result (self.new
+            ≡ ended (look_of options.now S.sheet (H.known highlighter.now) (H.answer highlighter.now)) self.old) }
     {
-        if let Some(frame) = self.frames.pop() {
-            self.environment = frame.environment;
-            self.finish(frame.tail);
+        match self.frames.pop() {
+            None => Ok(()),
+            Some(frame) => {
+                self.environment = frame.environment;
+                self.leave(options, highlighter, frame.tag)
+            }
         }
     }
 }

@@ -1,0 +1,19 @@
+-- What a layout rests on: what the style sheet answers, and what the highlighter knows and answers.
+use Rattle.std.specs.Prelude.{ℕ, Bool, false, List}
+use Rattle.md_table.specs.Sheet.{Sheet}
+use Rattle.md_table.specs.Defaults.{default_sheet}
+use Rattle.md_text.specs.Options.{OptionsView}
+
+pub record Look : Type 0 where
+  pub sheet : Sheet
+  -- whether code with this info text is coloured, and the text with colours that is shown for a line of it
+  pub known : List ℕ → Bool
+  pub answer : List ℕ → List ℕ → List ℕ
+
+-- the look of options and of a highlighter, by what their values mean
+abbrev pub look_of : {S : Type 0} → OptionsView S → (S → Sheet) → (List ℕ → Bool) → (List ℕ → List ℕ → List ℕ) → Look
+look_of options sheet known answer = record { sheet = sheet options.styles; known = known; answer = answer }
+
+-- the look of the defaults: no code is coloured
+abbrev pub default_look : Look
+default_look = record { sheet = default_sheet; known = λ info. false; answer = λ info line. line }
