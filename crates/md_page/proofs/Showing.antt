@@ -15,7 +15,7 @@ use Rattle.term_widgets.proofs.PageLemmas.{buffer_rows-drawn}
 use Rattle.md_events.specs.Blocks.{tree}
 use Rattle.md_text.specs.Layout.{document_lines}
 use Rattle.md_words.specs.declared.job.Job.{Job}
-use Rattle.md_page.specs.Shown.{rows, shown_rows, has_no_cell}
+use Rattle.md_page.specs.Shown.{job_look, rows, shown_rows, has_no_cell}
 
 common_length-same : (a m : ℕ) → common_length a m a m ≡ m
 common_length-same a m = omega arith
@@ -85,11 +85,11 @@ has_no_cell-empty job cut wide high = ap₂ (λ w h. w == 0 || h == 0) wide high
 -- the rows of a job's page are those of the page of its view
 pub page_rows-shown : (job : Job) (text : List ℕ) (page : PageView) (cut : Rect) → cut.width ≡ job.width → cut.height ≡ job.height
     → (is_empty cut ≡ true → page ≡ record { width = 0; lines = [] })
-    → (is_empty cut ≡ false → page ≡ record { width = cut.width; lines = document_lines (tree text) }) → page_rows page ≡ shown_rows job text
+    → (is_empty cut ≡ false → page ≡ record { width = cut.width; lines = document_lines (job_look job) (tree text) }) → page_rows page ≡ shown_rows job text
 page_rows-shown job text page cut wide high none some = go (is_empty cut) refl
   where
     go : (b : Bool) → is_empty cut ≡ b → page_rows page ≡ shown_rows job text
-    go true e = ap page_rows (none e) ∙ rows_of-none 0 ∙ sym (ap (λ b. cond b [] (rows text job.width)) (sym (has_no_cell-empty job cut wide high) ∙ e))
+    go true e = ap page_rows (none e) ∙ rows_of-none 0 ∙ sym (ap (λ b. cond b [] (rows (job_look job) text job.width)) (sym (has_no_cell-empty job cut wide high) ∙ e))
     go false e =
-        ap page_rows (some e) ∙ ap (λ w. rows_of w (document_lines (tree text))) wide
-        ∙ sym (ap (λ b. cond b [] (rows text job.width)) (sym (has_no_cell-empty job cut wide high) ∙ e))
+        ap page_rows (some e) ∙ ap (λ w. rows_of w (document_lines (job_look job) (tree text))) wide
+        ∙ sym (ap (λ b. cond b [] (rows (job_look job) text job.width)) (sym (has_no_cell-empty job cut wide high) ∙ e))

@@ -1,5 +1,6 @@
 -- The page of a text, and what a run shows of it.
-use Rattle.std.specs.Prelude.{◌≡◌, ℕ, ◌==◌, ◌||◌, Bool, true, false, ⊤, List, [], length, IsUtf8, if◌then◌else◌}
+use Rattle.std.specs.Prelude.{◌≡◌, ℕ, ◌==◌, ◌||◌, Bool, true, false, ⊤, List, [], codes, length, IsUtf8, if◌then◌else◌}
+use Rattle.std.specs.Str.{bytes_eq}
 use Rattle.term_core.specs.Graph.{Grapheme}
 use Rattle.term_core.specs.Cells.{view}
 use Rattle.term_core.specs.declared.rect.Rect.{Rect}
@@ -7,6 +8,7 @@ use Rattle.term_core.specs.Rect.{is_empty}
 use Rattle.term_widgets.specs.Page.{rows_of, any_wider}
 use Rattle.md_events.specs.Blocks.{tree}
 use Rattle.md_events.specs.Built.{built}
+use Rattle.md_text.specs.Look.{Look, default_look}
 use Rattle.md_text.specs.Layout.{document_lines}
 use Rattle.md_words.specs.declared.job.Job.{Job}
 use Rattle.view_print.specs.Print.{print}
@@ -16,24 +18,28 @@ use Rattle.md_page.specs.declared.status.Status.{Status}
 use Rattle.md_page.specs.declared.status.Status.TheVariants.{Done, NotUtf8, TooNarrow, Memory, Unbuilt}
 
 -- the rows of a text's page: the wrap, at its width, of the lines that the text's tree lays out
-abbrev pub rows : List ℕ → ℕ → List (List Grapheme)
-rows text width = rows_of width (document_lines (tree text))
+abbrev pub rows : Look → List ℕ → ℕ → List (List Grapheme)
+rows look text width = rows_of width (document_lines look (tree text))
 
 -- whether some visible grapheme of the layout is wider than the page
-abbrev pub too_wide : List ℕ → ℕ → Bool
-too_wide text width = any_wider width (document_lines (tree text))
+abbrev pub too_wide : Look → List ℕ → ℕ → Bool
+too_wide look text width = any_wider width (document_lines look (tree text))
 
 -- the text has a visible grapheme that is wider than the area, and the area has a cell
-pub record IsTooNarrow (text : List ℕ) (cut : Rect) : Type 0 where
+pub record IsTooNarrow (look : Look) (text : List ℕ) (cut : Rect) : Type 0 where
   pub utf8 : IsUtf8 text
   pub some : is_empty cut ≡ false
-  pub wide : too_wide text cut.width ≡ true
+  pub wide : too_wide look text cut.width ≡ true
 
 -- why a view of a text is refused
-abbrev pub RefusedBy : ViewError → List ℕ → Rect → Type 0
-RefusedBy refusal.Memory text cut = ⊤
-RefusedBy refusal.NotUtf8 text cut = IsUtf8 text → ⊥
-RefusedBy refusal.TooNarrow text cut = IsTooNarrow text cut
+abbrev pub RefusedBy : Look → ViewError → List ℕ → Rect → Type 0
+RefusedBy look refusal.Memory text cut = ⊤
+RefusedBy look refusal.NotUtf8 text cut = IsUtf8 text → ⊥
+RefusedBy look refusal.TooNarrow text cut = IsTooNarrow look text cut
+
+-- a job's text is laid out in the default styles, and code whose info text is `ansi` has the colours that it sets itself
+abbrev pub job_look : Job → Look
+job_look job = record default_look { known = λ info. bytes_eq info (codes "ansi") }
 
 -- whether a job's view has no cell
 abbrev pub has_no_cell : Job → Bool
@@ -41,7 +47,7 @@ has_no_cell job = job.width == 0 || job.height == 0
 
 -- the rows of a job's page; a view without a cell has the page without rows
 abbrev pub shown_rows : Job → List ℕ → List (List Grapheme)
-shown_rows job text = if has_no_cell job then [] else rows text job.width
+shown_rows job text = if has_no_cell job then [] else rows (job_look job) text job.width
 
 -- what a job prints of a text: the view of the rows from the scroll on, and the number of all rows
 abbrev pub shown : Job → List ℕ → List ℕ
@@ -51,14 +57,14 @@ shown job text = print (view (shown_rows job text) job.width job.height job.scro
 pub record IsShowable (job : Job) (text : List ℕ) : Type 0 where
   pub utf8 : IsUtf8 text
   pub is_built : built text ≡ true
-  pub fits : has_no_cell job ≡ false → too_wide text job.width ≡ false
+  pub fits : has_no_cell job ≡ false → too_wide (job_look job) text job.width ≡ false
 
 -- a text of built forms has a visible grapheme that is wider than the view
 pub record IsNarrow (job : Job) (text : List ℕ) : Type 0 where
   pub utf8 : IsUtf8 text
   pub is_built : built text ≡ true
   pub some : has_no_cell job ≡ false
-  pub wide : too_wide text job.width ≡ true
+  pub wide : too_wide (job_look job) text job.width ≡ true
 
 -- a text is UTF-8, and has a form that is not built
 pub record IsUnbuilt (text : List ℕ) : Type 0 where

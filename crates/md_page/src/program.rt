@@ -10,7 +10,7 @@ ghost use Rattle.md_events.specs.Blocks.{tree};
 ghost use Rattle.md_text.specs.Layout.{document_layout};
 ghost use Rattle.md_text.specs.Pieces.{puts, document_pieces};
 ghost use Rattle.md_page.specs.Writing.{WroteSome};
-ghost use Rattle.md_page.specs.Shown.{Cause, IsShowable, IsNarrow, IsUnbuilt, shown};
+ghost use Rattle.md_page.specs.Shown.{Cause, IsShowable, IsNarrow, IsUnbuilt, job_look, shown};
 
 use crate::output::output;
 use crate::status::Status;
@@ -90,7 +90,8 @@ pub fn run<R: Source, W: Sink>(
     ensures done { (job : Job) → job_of (map string_bytes words.now) ≡ Some job → result ≡ Status.Done
         → IfSome (R.left source.old) (λ bytes. IsAtEnd (R.left source.new) × IsShowable job bytes
         × Appends (W.written sink.old) (W.written sink.new) (shown job bytes)) }
-    ensures pieces { (text : List ℕ) → puts (document_layout (tree text)).marks ≡ document_pieces (tree text) }
+    ensures pieces { (job : Job) (text : List ℕ) → puts (document_layout (job_look job) (tree text)).marks
+        ≡ document_pieces (job_look job) (tree text) }
 
     // When each other status comes, and what it leaves.
     ensures usage { result ≡ Status.Usage → job_of (map string_bytes words.now) ≡ None }

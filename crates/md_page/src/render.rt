@@ -8,6 +8,7 @@ ghost use Rattle.term_widgets.specs.Page.{PageView, page_rows};
 ghost use Rattle.md_tree.specs.Good.{good};
 ghost use Rattle.md_events.specs.Blocks.{tree};
 ghost use Rattle.md_events.specs.Built.{built};
+ghost use Rattle.md_text.specs.Look.{look_of};
 ghost use Rattle.md_text.specs.Layout.{document_lines, document_layout};
 ghost use Rattle.md_text.specs.Pieces.{puts, document_pieces};
 ghost use Rattle.md_page.specs.Shown.{IsTooNarrow, RefusedBy, rows, too_wide};
@@ -27,9 +28,9 @@ fn page_of<'a, S: StyleSheet, H: Highlighter>(
     width: u16,
 ) -> Result<Page<'a>, ViewError>
     requires { IsTrue (built text.now) }
-    ensures ok { IfOk result (λ page. page ≡ record { width = width; lines = document_lines (tree text.now) }) }
-    ensures fits { OnOk result (too_wide text.now width ≡ false) }
-    ensures narrow { IsErrOf result ViewError.TooNarrow → too_wide text.now width ≡ true }
+    ensures ok { IfOk result (λ page. page ≡ record { width = width; lines = document_lines (look_of options.now S.sheet (H.known highlighter.now) (H.answer highlighter.now)) (tree text.now) }) }
+    ensures fits { OnOk result (too_wide (look_of options.now S.sheet (H.known highlighter.now) (H.answer highlighter.now)) text.now width ≡ false) }
+    ensures narrow { IsErrOf result ViewError.TooNarrow → too_wide (look_of options.now S.sheet (H.known highlighter.now) (H.answer highlighter.now)) text.now width ≡ true }
     ensures utf8 { IsErrOf result ViewError.NotUtf8 → ⊥ }
 {
     let Ok(lines) = from_str_with_options(alloc, text, options, highlighter) else {
@@ -65,17 +66,18 @@ pub fn render_view<'a, S: StyleSheet, H: Highlighter>(
 
     // The headline: the page's rows, its pieces, the area's cells, and no other cell.
     ensures rows { is_empty (intersection area buf.old.area) ≡ false
-        → IfOk result (λ page. page_rows page ≡ rows markdown.now (intersection area buf.old.area).width) }
-    ensures pieces { puts (document_layout (tree markdown.now)).marks ≡ document_pieces (tree markdown.now) }
+        → IfOk result (λ page. page_rows page ≡ rows (look_of options.now S.sheet (H.known highlighter.now) (H.answer highlighter.now)) markdown.now (intersection area buf.old.area).width) }
+    ensures pieces { puts (document_layout (look_of options.now S.sheet (H.known highlighter.now) (H.answer highlighter.now)) (tree markdown.now)).marks
+        ≡ document_pieces (look_of options.now S.sheet (H.known highlighter.now) (H.answer highlighter.now)) (tree markdown.now) }
     ensures drawn { is_empty (intersection area buf.old.area) ≡ false
         → OnOk result ((x y : ℕ) → let cut = intersection area buf.old.area in
         cell_at buf.new x y ≡ (if has_place cut x y
-        then slice_get (joined (view (rows markdown.now cut.width) cut.width cut.height scroll)) (place_of cut x y)
+        then slice_get (joined (view (rows (look_of options.now S.sheet (H.known highlighter.now) (H.answer highlighter.now)) markdown.now cut.width) cut.width cut.height scroll)) (place_of cut x y)
         else cell_at buf.old x y)) }
     ensures page { is_empty (intersection area buf.old.area) ≡ false
         → IfOk result (λ page. page ≡ record {
           width = (intersection area buf.old.area).width;
-          lines = document_lines (tree markdown.now);
+          lines = document_lines (look_of options.now S.sheet (H.known highlighter.now) (H.answer highlighter.now)) (tree markdown.now);
         }) }
 
     // An area without a cell.
@@ -86,11 +88,11 @@ pub fn render_view<'a, S: StyleSheet, H: Highlighter>(
     // When each refusal comes, and what it leaves.
     ensures utf8 { OnOk result (IsUtf8 markdown.now) }
     ensures fits { is_empty (intersection area buf.old.area) ≡ false
-        → OnOk result (too_wide markdown.now (intersection area buf.old.area).width ≡ false) }
+        → OnOk result (too_wide (look_of options.now S.sheet (H.known highlighter.now) (H.answer highlighter.now)) markdown.now (intersection area buf.old.area).width ≡ false) }
     ensures not_utf8 { IsErrOf result ViewError.NotUtf8 ↔ (IsUtf8 markdown.now → ⊥) }
-    ensures too_narrow { IsTooNarrow markdown.now (intersection area buf.old.area)
+    ensures too_narrow { IsTooNarrow (look_of options.now S.sheet (H.known highlighter.now) (H.answer highlighter.now)) markdown.now (intersection area buf.old.area)
         → IsErrOf result ViewError.TooNarrow ⊎ IsErrOf result ViewError.Memory }
-    ensures refused_by { IfErr result (λ e. RefusedBy e markdown.now (intersection area buf.old.area)) }
+    ensures refused_by { IfErr result (λ e. RefusedBy (look_of options.now S.sheet (H.known highlighter.now) (H.answer highlighter.now)) e markdown.now (intersection area buf.old.area)) }
     ensures area { buf.new.area ≡ buf.old.area }
     ensures refused { OnErr result (buf.new ≡ buf.old) }
 {

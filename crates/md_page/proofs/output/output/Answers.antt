@@ -9,7 +9,7 @@ use Rattle.view_print.specs.Print.{print}
 use Rattle.md_events.specs.Blocks.{tree}
 use Rattle.md_events.specs.Built.{built}
 use Rattle.md_text.specs.Layout.{document_lines}
-use Rattle.md_page.specs.Shown.{shown_rows, too_wide}
+use Rattle.md_page.specs.Shown.{job_look, shown_rows, too_wide}
 use Rattle.md_page.proofs.Showing.{width-same, height-same, whole_rows, has_no_cell-empty, page_rows-shown}
 use Rattle.md_page.proofs.output.output.Goals as goal
 
@@ -31,7 +31,7 @@ returns-in-Ok-print_view c =
     let page : PageView = c.in-Ok-render_view.page in
     let full : length new.cells ≡ new.area.height * new.area.width =
     subst (λ (b : BufferView). length b.cells ≡ b.area.height * b.area.width) c.buffer.view_is c.buffer.invariant in
-    let seen = whole_rows page area old new job.scroll (document_lines (tree text)) full same kept
+    let seen = whole_rows page area old new job.scroll (document_lines (job_look job) (tree text)) full same kept
     (c.in-Ok-render_view.ensures.empty utf8) c.render_view.ensures.untouched c.in-Ok-render_view.ensures.page
     c.in-Ok-render_view.ensures.fits c.in-Ok-render_view.ensures.drawn in
     let rows : page_rows page ≡ shown_rows job text =
@@ -41,7 +41,7 @@ returns-in-Ok-print_view c =
       record {
         utf8 = utf8;
         is_built = ap built (sym c.in-Ok.ensures.cases.0) ∙ sym c.if-not-built.ensures;
-        fits = λ some. ap (too_wide text) (sym cut_wide) ∙ c.in-Ok-render_view.ensures.fits (has_no_cell-empty job cut cut_wide cut_high ∙ some);
+        fits = λ some. ap (too_wide (job_look job) text) (sym cut_wide) ∙ c.in-Ok-render_view.ensures.fits (has_no_cell-empty job cut cut_wide cut_high ∙ some);
       },
       c.in-Ok-print_view.ensures
           ∙ ap₂ print (seen ∙ ap₂ (λ w h. view (page_rows page) w h job.scroll) across down) c.len.ensures

@@ -1,10 +1,11 @@
 use Rattle.std.proofs.Common.{ap}
 use Rattle.md_page.proofs.Endings.{usage_says, refused_words_say, done_says, read_fault_says, not_utf8_says, unbuilt_says, too_narrow_says, write_fault_says, too_long_says, only_too_long_says, untouched_says, complete_says}
+use Rattle.md_page.specs.Shown.{job_look}
 use Rattle.md_page.proofs.Headline.{puts_are_pieces}
 use Rattle.md_page.proofs.program.run.Goals as goal
 
 pub returns-clause-pieces : goal.returns-clause-pieces
-returns-clause-pieces g c = puts_are_pieces
+returns-clause-pieces g c job text = puts_are_pieces (job_look job) text
 
 pub returns-clause-usage : goal.returns-clause-usage
 returns-clause-usage g c = usage_says _ _ _ _ _ _ c.run_words.ensures.ran
