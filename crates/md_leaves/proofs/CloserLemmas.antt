@@ -1,5 +1,5 @@
 -- Closers in front of bytes.
-use Rattle.std.proofs.Common.{List, [], ◌∷◌, length, drop, get_or, ◌≡◌, ◌+◌, ◌==◌, ℕ, refl, ap, sym, ◌∙◌, arith, not, cond, Option, Some, None}
+use Rattle.std.proofs.Common.{List, drop, ◌≡◌, ◌+◌, ◌==◌, ℕ, ap, sym, ◌∙◌, arith, not, cond, Some, None}
 use Rattle.std.specs.List.{prefix_len, slice_index}
 use Rattle.std.proofs.lemmas.List.{drop-drop}
 use Rattle.md_lines.specs.Blanks.{is_blank}

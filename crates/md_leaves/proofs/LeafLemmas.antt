@@ -1,10 +1,9 @@
 -- The leaves of a source from a place on.
-use Rattle.std.proofs.Common.{List, [], ◌∷◌, ◌++◌, length, drop, get_or, ◌≡◌, ◌≤◌, ◌<◌, ◌+◌, ◌-◌, ℕ, zero, suc, refl, sym, ap, subst, ◌∙◌, arith, Bool, true, false, cond, Option, Some, None, is_some, add-zero, append_assoc, append-nil}
+use Rattle.std.proofs.Common.{List, [], ◌∷◌, ◌++◌, length, drop, get_or, ◌≡◌, ◌≤◌, ◌<◌, ◌+◌, ◌-◌, ℕ, zero, suc, refl, sym, ap, ◌∙◌, arith, Bool, true, false, Option, Some, None, is_some, add-zero, append_assoc, append-nil}
 use Rattle.std.proofs.lemmas.Bool.{false≢true}
 use Rattle.std.proofs.lemmas.List.{drop_more, drop_all, drop-drop}
 use Rattle.md_leaves.specs.declared.leaf.Leaf.{Leaf}
 use Rattle.md_leaves.specs.declared.cut.Cut.{Cut}
-use Rattle.md_leaves.specs.declared.leaf.Kind.TheVariants as kind
 use Rattle.md_leaves.specs.Leaves.{cut_at, first_cut, leaf, leaves, leaves_after, marked, or_text, text_length}
 use Rattle.md_leaves.proofs.TextLemmas.{text_length-marked}
 

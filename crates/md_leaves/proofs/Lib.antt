@@ -3,3 +3,7 @@ pub mod CloserLemmas
 pub mod RunLemmas
 pub mod TextLemmas
 pub mod LeafLemmas
+pub mod PlaceLemmas
+pub mod GoodCuts
+pub mod GoodClosers
+pub mod GoodLeaves

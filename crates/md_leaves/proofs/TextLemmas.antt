@@ -1,5 +1,5 @@
 -- Text: where no rule fits.
-use Rattle.std.proofs.Common.{List, [], ◌∷◌, length, drop, get_or, ◌≡◌, ◌≤◌, ◌<◌, ◌+◌, ◌-◌, ◌==◌, ℕ, zero, suc, refl, sym, ap, subst, ◌∙◌, arith, Bool, true, false, not, ◌&&◌, ◌||◌, cond, Option, Some, None, is_some, add-zero, zero-add}
+use Rattle.std.proofs.Common.{List, [], ◌∷◌, length, drop, get_or, ◌≡◌, ◌≤◌, ◌<◌, ◌+◌, ◌==◌, ℕ, suc, refl, sym, ap, subst, ◌∙◌, arith, Bool, true, false, ◌||◌, cond, Option, Some, None, is_some, add-zero, zero-add}
 use Rattle.std.specs.Option.{option_or}
 use Rattle.std.specs.List.{prefix_len, slice_index}
 use Rattle.std.proofs.lemmas.Bool.{false≢true}
@@ -33,7 +33,7 @@ not_none None e = refl
 not_none (Some x) e = absurd (false≢true (sym e))
 
 -- of each of these bytes but few it takes the next ones to know whether a rule fits
-abbrev always : ℕ → Bool
+abbrev pub always : ℕ → Bool
 always b = (ends_line b || is_tick b) || ((b == 91 || b == 93) || is_some (mark_of b))
 
 is_blank-cases : (P : ℕ → Type 0) (b : ℕ) → is_blank b ≡ true → P 32 → P 9 → P b
@@ -81,12 +81,12 @@ marked-closer : (source bs : List ℕ) (at : ℕ) → is_some (marked source at 
 marked-closer source bs at = some-either (get_or bs 0 0 == 40) _ _
 
 -- a rule fits at each of these bytes
-marked-always : (source bs : List ℕ) (at b : ℕ) → always b ≡ true → is_some (marked source at (b ∷ bs)) ≡ true
+pub marked-always : (source bs : List ℕ) (at b : ℕ) → always b ≡ true → is_some (marked source at (b ∷ bs)) ≡ true
 marked-always source bs at b is =
     always-cases (λ x. is_some (marked source at (x ∷ bs)) ≡ true) b is refl refl (marked-tick source bs at) refl (marked-closer source bs at) refl refl refl refl
 
 -- and at no other byte but a blank, a backslash and `!`
-marked-plain : (source bs : List ℕ) (at b : ℕ) → is_blank b ≡ false → (b == 92) ≡ false → (b == 33) ≡ false → always b ≡ false → marked source at (b ∷ bs) ≡ None
+pub marked-plain : (source bs : List ℕ) (at b : ℕ) → is_blank b ≡ false → (b == 92) ≡ false → (b == 33) ≡ false → always b ≡ false → marked source at (b ∷ bs) ≡ None
 marked-plain source bs at b blank slash bang other =
     let split = or-false (ends_line b || is_tick b) ((b == 91 || b == 93) || is_some (mark_of b)) other in
     let left = or-false (ends_line b) (is_tick b) split.0 in

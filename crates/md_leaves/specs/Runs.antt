@@ -1,5 +1,5 @@
 -- Runs of one of `* _ ~ ^`, and their neighbours.
-use Rattle.std.specs.Prelude.{ℕ, ◌-◌, ◌==◌, Bool, true, false, not, ◌&&◌, ◌||◌, if◌then◌else◌, Option, Some, None, List, drop, take, reverse, slice_index_or}
+use Rattle.std.specs.Prelude.{ℕ, ◌-◌, ◌==◌, Bool, true, not, ◌&&◌, ◌||◌, if◌then◌else◌, Option, Some, None, List, drop, take, reverse, slice_index_or}
 use Rattle.std.specs.List.{prefix_len, slice_index}
 use Rattle.std.specs.Str.{chars}
 use Rattle.std.specs.Char.{is_ascii, is_ascii_alphanumeric, is_whitespace}

@@ -105,6 +105,7 @@ fn cut_at(source: &str, at: usize) -> Cut
 /// The leaves stand in the order of their places, which touch and are the whole source.
 pub fn cut_leaves(alloc: Global, source: &str) -> Result<Vec<Leaf>, AllocError>
     ensures leaves { IfOk result (λ v. v.items ≡ leaves source.now) }
+    ensures cuts { IfOk result (λ v. AreLeaves source.now v.items) }
 {
     let mut leaves = Vec::new(alloc);
     let mut at = 0;

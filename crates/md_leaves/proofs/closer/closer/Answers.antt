@@ -1,4 +1,4 @@
-use Rattle.std.proofs.Common.{◌≡◌, ◌+◌, ◌∙◌, ap, sym, Some}
+use Rattle.std.proofs.Common.{◌+◌, ◌∙◌, ap, sym, Some}
 use Rattle.std.specs.List.{prefix_len}
 use Rattle.md_lines.specs.Blanks.{is_blank}
 use Rattle.md_leaves.specs.Closers.{closer}

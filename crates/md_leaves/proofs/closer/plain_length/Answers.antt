@@ -1,5 +1,5 @@
-use Rattle.std.proofs.Common.{◌≡◌, ◌<◌, ◌+◌, ℕ, ap, sym, ◌∙◌, arith, refl, get_or, zero, suc}
-use Rattle.md_leaves.proofs.PlainLemmas.{IsNext, Reads-next, Reads-stop, balanced-past, balanced-bar, balanced-closed}
+use Rattle.std.proofs.Common.{◌+◌, sym, ◌∙◌, arith, refl}
+use Rattle.md_leaves.proofs.PlainLemmas.{Reads-next, Reads-stop, balanced-past, balanced-bar, balanced-closed}
 use Rattle.md_leaves.proofs.closer.plain_length.Goals as goal
 
 pub loop-at-preserved-then-level-eq0 : goal.loop-at-preserved-then-level-eq0

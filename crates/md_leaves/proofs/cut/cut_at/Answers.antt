@@ -1,5 +1,5 @@
-use Rattle.std.proofs.Common.{◌≡◌, ◌∙◌, ◌-◌, ◌<◌, ℕ, List, ap, sym, arith, drop, None}
-use Rattle.md_leaves.specs.Leaves.{marked, or_text, text_length}
+use Rattle.std.proofs.Common.{◌≡◌, ◌∙◌, ℕ, List, ap, arith, drop}
+use Rattle.md_leaves.specs.Leaves.{or_text, text_length}
 use Rattle.md_leaves.proofs.LeafLemmas.{text-cut, marked-cut}
 use Rattle.md_leaves.proofs.cut.cut_at.Goals as goal
 

@@ -1,4 +1,4 @@
-use Rattle.std.proofs.Common.{◌≡◌, ◌+◌, ◌-◌, ◌≤◌, ◌∙◌, ℕ, List, ap, sym, arith, drop, length, length-drop}
+use Rattle.std.proofs.Common.{◌≡◌, ◌+◌, ◌∙◌, ℕ, List, ap, arith, drop, length, length-drop}
 use Rattle.std.proofs.lemmas.List.{drop-drop}
 use Rattle.md_leaves.specs.Leaves.{text_length, text_step}
 use Rattle.md_leaves.proofs.TextLemmas.{IsStep, text_step-at, text_length-end}

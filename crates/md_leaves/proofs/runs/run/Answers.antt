@@ -1,6 +1,6 @@
-use Rattle.std.proofs.Common.{◌≡◌, ◌+◌, ◌-◌, ◌≤◌, ◌<◌, ◌∙◌, ◌==◌, ℕ, List, ap, sym, arith, get_or, drop, take, length, Some, refl}
+use Rattle.std.proofs.Common.{◌≡◌, ◌+◌, ◌-◌, ◌∙◌, ◌==◌, ℕ, List, ap, sym, arith, get_or, drop, take, Some}
 use Rattle.std.specs.List.{prefix_len}
-use Rattle.md_leaves.specs.Runs.{char_after, char_before, mark_of, run_between}
+use Rattle.md_leaves.specs.Runs.{char_after, char_before, run_between}
 use Rattle.md_leaves.proofs.RunLemmas.{run-place, run-marked, mark_of-ascii}
 use Rattle.md_leaves.proofs.runs.run.Goals as goal
 
