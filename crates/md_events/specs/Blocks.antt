@@ -4,13 +4,14 @@ use Rattle.md_tree.specs.declared.event.Tag.TheVariants as tag
 use Rattle.md_tree.specs.Tree.{Nodes, Empty}
 use Rattle.md_lines.specs.Lines.{LineText, body_of, is_empty, lines_of}
 use Rattle.md_inline.specs.Inlines.{inlines}
+use Rattle.md_rules.specs.Fences.{fence_of}
 use Rattle.md_rules.specs.Headings.{heading_level}
 use Rattle.md_events.specs.Node.{Block, Element, node_then, or_else}
 use Rattle.md_events.specs.LeafBlocks.{leaf_block}
 
 -- a line at which a paragraph ends, since another block begins there
 abbrev pub interrupts : LineText → Bool
-interrupts line = is_some (heading_level line)
+interrupts line = is_some (fence_of line) || is_some (heading_level line)
 
 -- how many lines go on with a paragraph: each further nonempty line at which no other block begins
 unfoldable pub paragraph_more : List LineText → ℕ

@@ -11,7 +11,10 @@ pub use Rattle.md_rules.specs.Texts
 pub use Rattle.md_rules.specs.Shallow
 pub use Rattle.md_rules.specs.Attributes
 pub use Rattle.md_rules.specs.Headings
+pub use Rattle.md_rules.specs.Code
+pub use Rattle.md_rules.specs.Fences
 pub mod Node
+pub mod CodeBlocks
 pub mod LeafBlocks
 pub mod Blocks
 pub mod Written

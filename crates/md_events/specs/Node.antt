@@ -24,6 +24,10 @@ abbrev pub block_events : Block → List Event
 block_events block = events (node_then block.node Empty)
 
 -- what a rule answers, or else what the next ones do
+abbrev pub or_rule : Option Block → Option Block → Option Block
+or_rule (Some block) others = Some block
+or_rule None others = others
+
 abbrev pub or_else : Option Block → Block → Block
 or_else (Some block) others = block
 or_else None others = others

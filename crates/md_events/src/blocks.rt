@@ -7,7 +7,7 @@ ghost use Rattle.md_events.specs.Blocks.{blocks, first_block, first_paragraph, i
 use crate::leaf_blocks::write_leaf_block;
 use md_inline::write_inlines;
 use md_lines::Line;
-use md_rules::heading_level;
+use md_rules::{fence_of, heading_level};
 use md_tree::{Event, Tag, TagEnd};
 use std::alloc::{AllocError, Global};
 
@@ -69,7 +69,7 @@ fn write_paragraph<'a>(
 fn interrupts(line: &Line) -> bool
     ensures { result ≡ interrupts line.now }
 {
-    heading_level(line).is_some()
+    fence_of(line).is_some() || heading_level(line).is_some()
 }
 
 /// How many of the lines go on with a paragraph before them.

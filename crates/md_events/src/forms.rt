@@ -2,17 +2,15 @@
 ghost use Rattle.std.specs.Prelude.{◌≡◌};
 ghost use Rattle.std.specs.List.{list_all, list_any};
 ghost use Rattle.md_lines.specs.Lines.{lines_of};
-ghost use Rattle.md_events.specs.Built.{begins_unbuilt, begins_with_three, built, has_pair, is_mark, is_star, is_unbuilt, is_unbuilt_line};
+ghost use Rattle.md_events.specs.Built.{begins_unbuilt, built, has_pair, is_mark, is_star, is_unbuilt, is_unbuilt_line};
 
 use md_lines::{Line, is_blank, line_of};
-use md_rules::run_length;
 use term_text::next_line;
 
 /// Whether all forms of the text are built. Takes no memory.
 ///
-/// It is false exactly where the text holds a tab, `$`, `<`, `|`, `![` or `[^`, or where a nonempty line has an indent
-/// of 4 columns or more, or its body begins with `>`, `-`, `+`, `:`, an ASCII digit, three backticks, three tildes, or
-/// `*` and a blank, or its body consists of `*`, `_` and blanks alone.
+/// It is false exactly where the text holds `$`, `<`, `|`, `![` or `[^`, or where a nonempty line's body begins with
+/// `>`, `-`, `+`, `:`, an ASCII digit, or `*` and a blank, or consists of `*`, `_` and blanks alone.
 pub fn built(text: &str) -> bool
     ensures { result ≡ built text.now }
 {
@@ -33,7 +31,7 @@ fn has_unbuilt_byte(bytes: &[u8]) -> bool
 fn is_unbuilt(b: u8) -> bool
     ensures { result ≡ is_unbuilt b }
 {
-    matches!(b, b'\t' | b'$' | b'<' | b'|')
+    matches!(b, b'$' | b'<' | b'|')
 }
 
 /// Whether these two bytes stand somewhere, one behind the other.
@@ -69,7 +67,7 @@ fn is_unbuilt_line(line: &Line) -> bool
     ensures { result ≡ is_unbuilt_line line.now }
 {
     let body = line.body.as_bytes();
-    !line.is_empty() && (line.indent >= 4 || begins_unbuilt(body) || has_stars_alone(body))
+    !line.is_empty() && (begins_unbuilt(body) || has_stars_alone(body))
 }
 
 fn begins_unbuilt(body: &[u8]) -> bool
@@ -78,22 +76,13 @@ fn begins_unbuilt(body: &[u8]) -> bool
     if body.is_empty() {
         return false;
     }
-    is_mark(body[0])
-        || begins_with_three(b'`', body)
-        || begins_with_three(b'~', body)
-        || body[0] == b'*' && body.len() > 1 && is_blank(body[1])
+    is_mark(body[0]) || body[0] == b'*' && body.len() > 1 && is_blank(body[1])
 }
 
 fn is_mark(b: u8) -> bool
     ensures { result ≡ is_mark b }
 {
     matches!(b, b'>' | b'-' | b'+' | b':') || b.is_ascii_digit()
-}
-
-fn begins_with_three(mark: u8, body: &[u8]) -> bool
-    ensures { result ≡ begins_with_three mark body.now }
-{
-    run_length(mark, body) >= 3
 }
 
 fn has_stars_alone(body: &[u8]) -> bool

@@ -1,13 +1,14 @@
-// Blocks that are no containers: headings.
+// Blocks that are no containers.
 ghost use Rattle.std.specs.Prelude.{◌≡◌, ◌++◌, ◌+◌, ◌<◌, ◌≤◌, IfOk, OnOk, length, IfSome};
 ghost use Rattle.md_tree.specs.Tree.{Empty, events};
 ghost use Rattle.md_events.specs.Node.{node_then};
 ghost use Rattle.md_events.specs.LeafBlocks.{heading_node};
 ghost use Rattle.md_events.specs.Written.{first_leaf, leaf_events, lines_taken};
 
+use crate::code_blocks::{write_fenced, write_indented};
 use md_inline::write_inlines;
 use md_lines::Line;
-use md_rules::{Heading, heading_of};
+use md_rules::{Heading, fence_of, heading_of, is_code};
 use md_tree::{Event, Tag, TagEnd};
 use std::alloc::{AllocError, Global};
 
@@ -23,7 +24,14 @@ pub(crate) fn write_leaf_block<'a>(
     ensures lines { IfOk result (λ count. count ≡ lines_taken (first_leaf lines.now)) }
     ensures within { IfOk result (λ count. IfSome count (λ n. n ≤ length lines.now)) }
 {
-    if let Some(heading) = heading_of(alloc, &lines[0])? {
+    let line = &lines[0];
+    if is_code(line) {
+        return Ok(Some(write_indented(alloc, lines, out)?));
+    }
+    if let Some(fence) = fence_of(line) {
+        return Ok(Some(1 + write_fenced(alloc, fence, &lines[1..], out)?));
+    }
+    if let Some(heading) = heading_of(alloc, line)? {
         write_heading(alloc, heading, out)?;
         return Ok(Some(1));
     }

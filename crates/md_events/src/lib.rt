@@ -2,6 +2,7 @@
 #![tactic(auto)]
 
 mod blocks;
+mod code_blocks;
 mod forms;
 pub mod laws;
 mod leaf_blocks;

@@ -65,6 +65,12 @@ fn show(shown: &mut String, event: &Event) -> Result<(), AllocError> {
             let level = level_number(*level);
             write!(shown, "</h{level}>")
         }
+        Event::Start(Tag::CodeBlock(CodeBlockKind::Indented)) => shown.push_str("<indented>"),
+        Event::Start(Tag::CodeBlock(CodeBlockKind::Fenced(info))) => {
+            let info = info.as_str();
+            write!(shown, "<code {info}>")
+        }
+        Event::End(TagEnd::CodeBlock) => shown.push_str("</code>"),
         Event::Text(text) => {
             let text = text.as_str();
             write!(shown, "({text})")
@@ -144,11 +150,50 @@ fn headings_have_attributes(rt: HostRuntime) -> Result<(), Fail> {
 }
 
 #[test]
+fn fences_hold_code(rt: HostRuntime) -> Result<(), Fail> {
+    let rows = [
+        (
+            "a\n```sh\nb\n\n```\nc",
+            "<p>(a)</p><code sh>(b)(\n)(\n)</code><p>(c)</p>",
+        ),
+        (
+            "~~~~ sh x\na\n~~~\n~~~~~",
+            "<code sh x>(a)(\n)(~~~)(\n)</code>",
+        ),
+        (
+            "  ```\n   a\n b\n``` x\n    ```\n```",
+            "<code >( a)(\n)(b)(\n)(``` x)(\n)(  ```)(\n)</code>",
+        ),
+        ("```a`b", "<p>(```a`b)</p>"),
+        ("~~~a`b\nc", "<code a`b>(c)(\n)</code>"),
+        ("``\na", "<p>(``)/(a)</p>"),
+    ];
+    compare(&rt, rt.alloc(), &rows)
+}
+
+#[test]
+fn an_indent_of_four_is_code(rt: HostRuntime) -> Result<(), Fail> {
+    let rows = [
+        (
+            "    a\n\n\tb\n\n\nc",
+            "<indented>(a)(\n)(\n)(b)(\n)</code><p>(c)</p>",
+        ),
+        (" \tx", "<indented>( x)(\n)</code>"),
+        (
+            "    a\n      \n    b",
+            "<indented>(a)(\n)(  )(\n)(b)(\n)</code>",
+        ),
+        ("a\n    b", "<p>(a)/(b)</p>"),
+        ("    # a\n", "<indented>(# a)(\n)</code>"),
+    ];
+    compare(&rt, rt.alloc(), &rows)
+}
+
+#[test]
 fn some_forms_are_not_built(rt: HostRuntime) {
-    assert!(rt; built("Hello, *world*! [a](b)\r\n   a 1 > 2: a-b\r      \n"));
+    assert!(rt; built("Hello, *world*! [a](b)\r\n   a 1 > 2: a-b\r      \n\tc\n```"));
     for text in [
-        "a\tb", "a$", "<b", "a|b", "![a", "[^a", "a\n    b", "> a", "-", "+ a", ": a", "1", "```",
-        "~~~", "* a", "**", "_ _ _",
+        "a$", "<b", "a|b", "![a", "[^a", "> a", "-", "+ a", ": a", "1", "* a", "**", "_ _ _",
     ] {
         assert!(rt; !built(text));
     }

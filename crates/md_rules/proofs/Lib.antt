@@ -1,3 +1,4 @@
 pub mod TextLemmas
 pub mod OneLine
 pub mod BracedLemmas
+pub mod CodeLemmas

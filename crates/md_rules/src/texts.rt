@@ -1,6 +1,6 @@
 // Parts of a line's text.
 ghost use Rattle.std.specs.Prelude.{◌≡◌, ◌==◌, ◌≤◌, ◌<◌, ◌∷◌, [], not, length, take, drop, MatchOption, IfSome, IsTrue, slice_index_or};
-ghost use Rattle.std.specs.List.{prefix_len, suffix_len, position_or_len};
+ghost use Rattle.std.specs.List.{list_all, prefix_len, suffix_len, position_or_len};
 ghost use Rattle.std.specs.Str.{IsCharBoundary};
 ghost use Rattle.md_lines.specs.Blanks.{is_blank};
 ghost use Rattle.md_rules.specs.Texts.{ends_word, trimmed, without_start_blanks, words};
@@ -26,6 +26,13 @@ pub fn run_length(mark: u8, bytes: &[u8]) -> usize
     ensures { result ≡ prefix_len (λ b. b == mark) bytes.now }
 {
     bytes.iter().take_while(|b| **b == mark).count()
+}
+
+/// Whether each of the bytes is this one.
+pub(crate) fn are_all(mark: u8, bytes: &[u8]) -> bool
+    ensures { result ≡ list_all (λ b. b == mark) bytes.now }
+{
+    bytes.iter().all(|b| *b == mark)
 }
 
 /// The text without the blanks at its start.
