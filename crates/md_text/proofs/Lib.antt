@@ -1,7 +1,9 @@
 pub mod Lines
 pub mod Draws
+pub mod Each
 pub mod TextLines
 pub mod Words
+pub mod CodeInside
 pub mod Runs
 pub mod Pieces
 pub mod Starts

@@ -2,27 +2,34 @@
 use Rattle.std.proofs.Common.{◌≡◌, ℕ, List, [], ◌∷◌, ◌++◌, Bool, true, false, ◌==◌, if◌then◌else◌, length, refl, ap, ◌∙◌}
 use Rattle.std.proofs.lemmas.List.{append-nil}
 use Rattle.std.specs.Str.Lines.{lines}
-use Rattle.term_text.specs.Text.{SpanView}
+use Rattle.term_text.specs.Style.{no_style}
+use Rattle.term_text.specs.Text.{SpanView, LineView}
+use Rattle.md_tree.specs.declared.event.CodeBlockKind.{CodeBlockKind}
 use Rattle.md_tree.specs.declared.event.Event.{Event}
 use Rattle.md_tree.specs.declared.event.Event.TheVariants as event
 use Rattle.md_tree.specs.declared.event.HeadingLevel.{HeadingLevel}
 use Rattle.md_tree.specs.declared.event.Tag.{Tag}
 use Rattle.md_tree.specs.declared.event.Tag.TheVariants as tag
 use Rattle.md_tree.specs.Tree.{Nodes, Empty, Leaf, Branch}
+use Rattle.ansi_text.specs.Ansi.{ansi}
 use Rattle.md_table.specs.Sheet.{Sheet}
 use Rattle.md_text.specs.declared.environment.Environment.{Environment}
 use Rattle.md_text.specs.declared.environment.Spacing.{Spacing}
 use Rattle.md_text.specs.declared.environment.Fresh.{Fresh}
 use Rattle.md_text.specs.declared.environment.Fresh.TheVariants as fresh
 use Rattle.md_text.specs.Marks.{Mark, Open, Put, Pad, plain_span, styled_span}
-use Rattle.md_text.specs.Laid.{nothing_laid, join_laid, put_laid, put_all}
+use Rattle.md_text.specs.declared.environment.Within.{Within}
+use Rattle.md_text.specs.declared.environment.Within.TheVariants.{Lines, Code}
+use Rattle.md_text.specs.Laid.{Laid, nothing_laid, then_laid, each_laid, open_styled, open_laid, join_laid, put_laid, put_all}
 use Rattle.md_text.specs.Look.{Look}
 use Rattle.md_text.specs.Environment.{environment_inside}
 use Rattle.md_text.specs.Headings.{level_number, with_blank, heading, attribute_suffix}
 use Rattle.md_text.specs.Blocks.{paragraph, enter, leave}
-use Rattle.md_text.specs.Inlines.{begin_line, text_lines, link_spans, leaf}
+use Rattle.md_text.specs.Inlines.{begin_line, text_lines, link_spans, line_leaf, leaf_within, leaf}
+use Rattle.md_text.specs.Code.{info, recognised, code_environment, fence, coloured_line, answered_line, code_lines, apart, code_block}
+use Rattle.md_text.specs.Texts.{texts}
 use Rattle.md_text.specs.Layout.{layout}
-use Rattle.md_text.specs.Pieces.{puts, piece, pieces_of, line_pieces, leaf_pieces, pieces_before, pieces_behind, pieces}
+use Rattle.md_text.specs.Pieces.{puts, piece, pieces_of, each_pieces, line_pieces, line_leaf_pieces, pieces_within, leaf_pieces, fence_pieces, coloured_pieces, code_line_pieces, code_pieces, pieces_before, pieces_behind, pieces}
 
 pub puts-append : (a b : List Mark) → puts (a ++ b) ≡ puts a ++ puts b
 puts-append [] b = refl
@@ -43,11 +50,17 @@ puts-put spacing span = by_test (length span.text == 0)
     by_test true = refl
     by_test false = refl
 
+-- what each puts, one after another
+puts-each : {A : Type 0} (one : Spacing → A → Laid) (pieces : A → List SpanView) →
+    ((spacing : Spacing) (x : A) → puts (one spacing x).marks ≡ pieces x) →
+    (spacing : Spacing) (xs : List A) → puts (each_laid one spacing xs).marks ≡ each_pieces pieces xs
+puts-each one pieces h spacing [] = refl
+puts-each one pieces h spacing (x ∷ xs) =
+    let a = one spacing x in
+    puts2 a.marks (each_laid one a.after xs).marks (pieces x) (each_pieces pieces xs) (h spacing x) (puts-each one pieces h a.after xs)
+
 puts-put_all : (spacing : Spacing) (spans : List SpanView) → puts (put_all spacing spans).marks ≡ pieces_of spans
-puts-put_all spacing [] = refl
-puts-put_all spacing (span ∷ spans) =
-    let a = put_laid spacing span in
-    puts2 a.marks (put_all a.after spans).marks (piece span) (pieces_of spans) (puts-put spacing span) (puts-put_all a.after spans)
+puts-put_all spacing spans = puts-each put_laid piece puts-put spacing spans
 
 puts-join : (env : Environment) (due : Bool) (f : Fresh) (any : Bool) →
     puts (join_laid env (record { due = due; fresh = f; any_line = any })).marks ≡ []
@@ -69,14 +82,76 @@ puts-text_lines is_first env spacing (line ∷ others) =
     (puts2 a.marks b.marks [] (piece span) (puts-begin is_first env spacing) (puts-put a.after span))
     (puts-text_lines false env b.after others)
 
-puts-leaf : (sheet : Sheet) (env : Environment) (spacing : Spacing) (e : Event) →
-    puts (leaf sheet env spacing e).marks ≡ leaf_pieces sheet env e
-puts-leaf sheet env spacing (event.Text bytes) = puts-text_lines true env spacing (lines bytes)
-puts-leaf sheet env spacing (event.Code bytes) =
+puts-line_leaf : (sheet : Sheet) (env : Environment) (spacing : Spacing) (e : Event) →
+    puts (line_leaf sheet env spacing e).marks ≡ line_leaf_pieces sheet env e
+puts-line_leaf sheet env spacing (event.Text bytes) = puts-text_lines true env spacing (lines bytes)
+puts-line_leaf sheet env spacing (event.Code bytes) =
     let a = join_laid env spacing in
     puts2 a.marks (put_laid a.after (styled_span bytes sheet.code)).marks [] (piece (styled_span bytes sheet.code))
     (puts-join env spacing.due spacing.fresh spacing.any_line) (puts-put a.after (styled_span bytes sheet.code))
-puts-leaf sheet env spacing e = refl
+puts-line_leaf sheet env spacing e = refl
+
+puts-leaf_within : (within : Within) (sheet : Sheet) (env : Environment) (spacing : Spacing) (e : Event) →
+    puts (leaf_within within sheet env spacing e).marks ≡ pieces_within within sheet env e
+puts-leaf_within Lines sheet env spacing e = puts-line_leaf sheet env spacing e
+puts-leaf_within Code sheet env spacing e = refl
+
+puts-fence : (sheet : Sheet) (env : Environment) (spacing : Spacing) (bytes : List ℕ) →
+    puts (fence sheet env spacing bytes).marks ≡ fence_pieces sheet bytes
+puts-fence sheet env spacing bytes = by_test (length sheet.code_block_fence == 0)
+  where
+    span : SpanView
+    span = plain_span (sheet.code_block_fence ++ bytes)
+
+    by_test : (b : Bool) →
+        puts (if b then nothing_laid spacing else then_laid (open_laid env spacing) (λ opened. put_laid opened span)).marks
+        ≡ (if b then [] else piece span)
+    by_test true = refl
+    by_test false = puts-put (open_laid env spacing).after span
+
+puts-coloured_line : (spacing : Spacing) (line : LineView) → puts (coloured_line spacing line).marks ≡ pieces_of line.spans
+puts-coloured_line spacing line = puts-put_all (open_styled 0 no_style spacing).after line.spans
+
+puts-answered_line : (look : Look) (lang : List ℕ) (spacing : Spacing) (line : List ℕ) →
+    puts (answered_line look lang spacing line).marks ≡ coloured_pieces (look.answer lang line)
+puts-answered_line look lang spacing line =
+    puts-each coloured_line (λ (view : LineView). pieces_of view.spans) puts-coloured_line spacing (ansi (look.answer lang line))
+
+puts-code_lines : (look : Look) (env : Environment) (spacing : Spacing) (kind : CodeBlockKind) (all : List (List ℕ)) →
+    puts (code_lines look (code_environment look env kind) spacing kind all).marks ≡ code_line_pieces look env kind all
+puts-code_lines look env spacing kind all = by_test (recognised look kind)
+  where
+    by_test : (b : Bool) →
+        puts (if b then each_laid (answered_line look (info kind)) spacing all
+        else text_lines false (if b then env else record env { line_style = look.sheet.code }) spacing all).marks
+        ≡ (if b then each_pieces (λ line. coloured_pieces (look.answer (info kind) line)) all else line_pieces env all)
+    by_test true =
+        puts-each (answered_line look (info kind)) (λ line. coloured_pieces (look.answer (info kind) line)) (puts-answered_line look (info kind)) spacing all
+    by_test false = puts-text_lines false (record env { line_style = look.sheet.code }) spacing all
+
+puts-apart : (env : Environment) (due : Bool) (f : Fresh) (any : Bool) →
+    puts (apart env (record { due = due; fresh = f; any_line = any })).marks ≡ []
+puts-apart env due f true = refl
+puts-apart env due f false = refl
+
+puts-code_block : (look : Look) (env : Environment) (spacing : Spacing) (kind : CodeBlockKind) (content : List ℕ) →
+    puts (code_block look env spacing kind content).marks ≡ code_pieces look env kind content
+puts-code_block look env spacing kind content =
+    let env_in = code_environment look env kind in
+    let a = apart env spacing in
+    let b = fence look.sheet env_in a.after (info kind) in
+    let c = code_lines look env_in b.after kind (lines content) in
+    let d = fence look.sheet env_in c.after [] in
+    let first = fence_pieces look.sheet (info kind) in
+    let between = code_line_pieces look env kind (lines content) in
+    let last = fence_pieces look.sheet [] in
+    puts2 a.marks ((b.marks ++ (c.marks ++ d.marks)) ++ []) [] (first ++ (between ++ last))
+    (puts-apart env spacing.due spacing.fresh spacing.any_line)
+    (puts2 (b.marks ++ (c.marks ++ d.marks)) [] (first ++ (between ++ last)) []
+    (puts2 b.marks (c.marks ++ d.marks) first (between ++ last) (puts-fence look.sheet env_in a.after (info kind))
+    (puts2 c.marks d.marks between last (puts-code_lines look env b.after kind (lines content)) (puts-fence look.sheet env_in c.after [])))
+    refl
+    ∙ append-nil (first ++ (between ++ last)))
 
 puts-paragraph : (env : Environment) (due : Bool) (f : Fresh) (any : Bool) →
     puts (paragraph env (record { due = due; fresh = f; any_line = any })).marks ≡ []
@@ -100,7 +175,6 @@ puts-enter : (sheet : Sheet) (env : Environment) (s : Spacing) (t : Tag) → put
 puts-enter sheet env s tag.Paragraph = puts-paragraph env s.due s.fresh s.any_line
 puts-enter sheet env s (tag.Heading level id classes attrs) =
     puts-heading sheet env s.due s.fresh s.any_line level
-puts-enter sheet env s (tag.CodeBlock kind) = puts-paragraph env s.due s.fresh s.any_line
 puts-enter sheet env s tag.HtmlBlock = puts-paragraph env s.due s.fresh s.any_line
 puts-enter sheet env s tag.Item = puts-paragraph env s.due s.fresh s.any_line
 puts-enter sheet env s tag.DefinitionListTitle = puts-paragraph env s.due s.fresh s.any_line
@@ -109,11 +183,13 @@ puts-enter sheet env s tag.TableCell = puts-paragraph env s.due s.fresh s.any_li
 puts-enter sheet env s tag.MetadataBlock = puts-paragraph env s.due s.fresh s.any_line
 puts-enter sheet env s t = refl
 
-puts-leave : (look : Look) (env : Environment) (s : Spacing) (t : Tag) → puts (leave look env s t).marks ≡ pieces_behind look t
-puts-leave look env s (tag.Heading level id classes attrs) =
+puts-leave : (look : Look) (env : Environment) (s : Spacing) (t : Tag) (content : List ℕ) →
+    puts (leave look env s t content).marks ≡ pieces_behind look env t content
+puts-leave look env s (tag.Heading level id classes attrs) content =
     puts-put-then s (styled_span (attribute_suffix id classes attrs) look.sheet.heading_meta)
-puts-leave look env s (tag.Link dest) = puts-put_all s (link_spans look.sheet dest)
-puts-leave look env s t = refl
+puts-leave look env s (tag.Link dest) content = puts-put_all s (link_spans look.sheet dest)
+puts-leave look env s (tag.CodeBlock kind) content = puts-code_block look env s kind content
+puts-leave look env s t content = refl
 
 -- the spans that a layout puts are the pieces of its tree, good or not
 pub puts-layout : (look : Look) (t : Nodes) (env : Environment) (spacing : Spacing) → puts (layout look env spacing t).marks ≡ pieces look env t
@@ -121,15 +197,16 @@ puts-layout look Empty env spacing = refl
 puts-layout look (Leaf e rest) env spacing =
     let a = leaf look.sheet env spacing e in
     puts2 a.marks (layout look env a.after rest).marks (leaf_pieces look.sheet env e) (pieces look env rest)
-    (puts-leaf look.sheet env spacing e) (puts-layout look rest env a.after)
+    (puts-leaf_within env.within look.sheet env spacing e) (puts-layout look rest env a.after)
 puts-layout look (Branch t inside rest) env spacing =
     let env_in = environment_inside look.sheet env t in
     let a = enter look.sheet env spacing t in
     let b = layout look env_in a.after inside in
-    let c = leave look env b.after t in
+    let c = leave look env b.after t (texts inside) in
     let d = layout look env c.after rest in
     let within = pieces look env_in inside in
-    puts2 (a.marks ++ (b.marks ++ c.marks)) d.marks (pieces_before look.sheet t ++ (within ++ pieces_behind look t)) (pieces look env rest)
-    (puts2 a.marks (b.marks ++ c.marks) (pieces_before look.sheet t) (within ++ pieces_behind look t) (puts-enter look.sheet env spacing t)
-    (puts2 b.marks c.marks within (pieces_behind look t) (puts-layout look inside env_in a.after) (puts-leave look env b.after t)))
+    let last = pieces_behind look env t (texts inside) in
+    puts2 (a.marks ++ (b.marks ++ c.marks)) d.marks (pieces_before look.sheet t ++ (within ++ last)) (pieces look env rest)
+    (puts2 a.marks (b.marks ++ c.marks) (pieces_before look.sheet t) (within ++ last) (puts-enter look.sheet env spacing t)
+    (puts2 b.marks c.marks within last (puts-layout look inside env_in a.after) (puts-leave look env b.after t (texts inside))))
     (puts-layout look rest env c.after)

@@ -1,61 +1,101 @@
 -- A run over a tree's events draws the tree's layout.
-use Rattle.std.proofs.Common.{◌≡◌, List, [], ◌∷◌, ◌++◌, true, refl, ap, sym, ◌∙◌}
+use Rattle.std.proofs.Common.{◌≡◌, ℕ, List, [], ◌∷◌, ◌++◌, true, refl, ap, sym, ◌∙◌, append_assoc}
+use Rattle.std.proofs.lemmas.List.{append-nil}
 use Rattle.term_text.specs.Text.{LineView}
 use Rattle.md_tree.specs.declared.event.Event.{Event}
 use Rattle.md_tree.specs.declared.event.Event.TheVariants as event
+use Rattle.md_tree.specs.declared.event.CodeBlockKind.{CodeBlockKind}
+use Rattle.md_tree.specs.declared.event.Tag.TheVariants as tag
 use Rattle.md_tree.specs.declared.place.Place.{Place}
 use Rattle.md_tree.specs.Tree.{Nodes, Empty, Leaf, Branch, events, events_then, end_of}
-use Rattle.md_tree.specs.Good.{good, good_at, place_inside, place_after, place_after_leaf, document_place}
+use Rattle.md_tree.specs.Good.{good, good_at, may_hold, place_inside, place_after, place_after_leaf, document_place}
 use Rattle.md_tree.proofs.Nodes.{and_left, and_right}
 use Rattle.md_text.specs.declared.environment.Environment.{Environment}
 use Rattle.md_text.specs.declared.environment.Spacing.{Spacing}
+use Rattle.md_text.specs.declared.environment.Within.{Within}
+use Rattle.md_text.specs.declared.environment.Within.TheVariants.{Lines}
 use Rattle.md_text.specs.Marks.{Mark, draws}
+use Rattle.md_text.specs.Laid.{Laid}
 use Rattle.md_text.specs.Look.{Look}
 use Rattle.md_text.specs.Environment.{first_environment, first_spacing, environment_inside}
 use Rattle.md_text.specs.Blocks.{enter, leave}
 use Rattle.md_text.specs.Inlines.{leaf}
+use Rattle.md_text.specs.Texts.{leaf_text, texts}
+use Rattle.md_text.specs.Code.{code_block}
 use Rattle.md_text.specs.Layout.{layout, document_lines}
-use Rattle.md_text.specs.State.{Begun, State, run, first_state}
+use Rattle.md_text.specs.State.{Begun, State, content_within, run, first_state}
+use Rattle.md_text.proofs.CodeInside.{code_place, within_code, element-in-code, layout-code}
 use Rattle.md_text.proofs.Draws.{draws-append}
 
-abbrev pub state_of : List Begun → Environment → Spacing → List LineView → State
-state_of elements env spacing lines = record { open_elements = elements; environment = env; spacing = spacing; lines = lines }
+abbrev pub state_of : List Begun → Environment → Spacing → List ℕ → List LineView → State
+state_of elements env spacing content lines =
+    record { open_elements = elements; environment = env; spacing = spacing; content = content; lines = lines }
 
 -- the state behind nodes
 abbrev pub state_behind : Look → List Begun → Environment → Spacing → List LineView → Nodes → State
 state_behind look elements env spacing lines t =
-    state_of elements env (layout look env spacing t).after (draws lines (layout look env spacing t).marks)
+    state_of elements env (layout look env spacing t).after [] (draws lines (layout look env spacing t).marks)
+
+-- the state behind a block of code, by the layout of what is inside it, and the nodes behind it
+abbrev in_front : Look → List Begun → Environment → List LineView → CodeBlockKind → Nodes → Nodes → Laid → State
+in_front look elements env lines kind inside rest b =
+    let block = code_block look env b.after kind (texts inside) in
+    let d = layout look env block.after rest in
+    state_of elements env d.after [] (draws lines ((b.marks ++ block.marks) ++ d.marks))
 
 join2 : (look : Look) (es : List Event) (elements : List Begun) (env : Environment) (spacing : Spacing) (lines : List LineView) (a b : List Mark) →
-    run look es (state_of elements env spacing (draws (draws lines a) b)) ≡ run look es (state_of elements env spacing (draws lines (a ++ b)))
-join2 look es elements env spacing lines a b = ap (λ (z : List LineView). run look es (state_of elements env spacing z)) (sym (draws-append lines a b))
+    run look es (state_of elements env spacing [] (draws (draws lines a) b)) ≡ run look es (state_of elements env spacing [] (draws lines (a ++ b)))
+join2 look es elements env spacing lines a b = ap (λ (z : List LineView). run look es (state_of elements env spacing [] z)) (sym (draws-append lines a b))
 
 join4 : (look : Look) (es : List Event) (elements : List Begun) (env : Environment) (spacing : Spacing) (lines : List LineView) (a b c d : List Mark) →
-    run look es (state_of elements env spacing (draws (draws (draws (draws lines a) b) c) d)) ≡ run look es (state_of elements env spacing (draws lines ((a ++ (b ++ c)) ++ d)))
-join4 look es elements env spacing lines a b c d = ap (λ (z : List LineView). run look es (state_of elements env spacing z)) (simp draws-append)
+    run look es (state_of elements env spacing [] (draws (draws (draws (draws lines a) b) c) d)) ≡ run look es (state_of elements env spacing [] (draws lines ((a ++ (b ++ c)) ++ d)))
+join4 look es elements env spacing lines a b c d = ap (λ (z : List LineView). run look es (state_of elements env spacing [] z)) (simp draws-append)
+
+-- a run over the texts of a block of code keeps them as its content
+run-texts : (look : Look) (t : Nodes) (es : List Event) (elements : List Begun) (env : Environment) (spacing : Spacing) (content : List ℕ) (lines : List LineView) →
+    good_at code_place t ≡ true →
+    run look (events_then t es) (state_of elements (within_code env) spacing content lines)
+    ≡ run look es (state_of elements (within_code env) spacing (content ++ texts t) lines)
+run-texts look Empty es elements env spacing content lines g =
+    ap (λ (c : List ℕ). run look es (state_of elements (within_code env) spacing c lines)) (sym (append-nil content))
+run-texts look (Leaf (event.Start t) rest) es elements env spacing content lines g = cc
+run-texts look (Leaf (event.End e) rest) es elements env spacing content lines g = cc
+run-texts look (Leaf e rest) es elements env spacing content lines g =
+    run-texts look rest es elements env spacing (content ++ leaf_text e) lines (and_right (may_hold code_place e) (good_at code_place rest) g)
+    ∙ ap (λ (c : List ℕ). run look es (state_of elements (within_code env) spacing c lines)) (append_assoc content (leaf_text e) (texts rest))
+run-texts look (Branch t inside rest) es elements env spacing content lines g = absurd (element-in-code t (and_left _ _ g))
 
 pub run-events_then : (look : Look) (t : Nodes) (es : List Event) (elements : List Begun) (env : Environment) (spacing : Spacing) (lines : List LineView) (p : Place) →
-    good_at p t ≡ true →
-    run look (events_then t es) (state_of elements env spacing lines) ≡ run look es (state_behind look elements env spacing lines t)
-run-events_then look Empty es elements env spacing lines p g = refl
-run-events_then look (Leaf (event.Start t) rest) es elements env spacing lines p g = cc
-run-events_then look (Leaf (event.End e) rest) es elements env spacing lines p g = cc
-run-events_then look (Leaf e rest) es elements env spacing lines p g =
+    env.within ≡ Lines → good_at p t ≡ true →
+    run look (events_then t es) (state_of elements env spacing [] lines) ≡ run look es (state_behind look elements env spacing lines t)
+run-events_then look Empty es elements env spacing lines p w g = refl
+run-events_then look (Leaf (event.Start t) rest) es elements env spacing lines p w g = cc
+run-events_then look (Leaf (event.End e) rest) es elements env spacing lines p w g = cc
+run-events_then look (Leaf e rest) es elements env spacing lines p w g =
     let a = leaf look.sheet env spacing e in
-    run-events_then look rest es elements env a.after (draws lines a.marks) (place_after_leaf p) (and_right _ _ g)
+    ap (λ (z : Within). run look (events_then rest es) (state_of elements env a.after (content_within z [] e) (draws lines a.marks))) w
+    ∙ run-events_then look rest es elements env a.after (draws lines a.marks) (place_after_leaf p) w (and_right _ _ g)
     ∙ join2 look es elements env (layout look env a.after rest).after lines a.marks (layout look env a.after rest).marks
-run-events_then look (Branch t inside rest) es elements env spacing lines p g =
-    let within = environment_inside look.sheet env t in
+run-events_then look (Branch (tag.CodeBlock kind) inside rest) es elements env spacing lines p w g =
+    let block = code_block look env spacing kind (texts inside) in
+    let d = layout look env block.after rest in
+    run-texts look inside (event.End (end_of (tag.CodeBlock kind)) ∷ events_then rest es) ((record { tag = tag.CodeBlock kind; environment = env }) ∷ elements)
+    env spacing [] lines (and_left _ _ (and_right _ _ g))
+    ∙ run-events_then look rest es elements env block.after (draws lines block.marks) (place_after p (tag.CodeBlock kind)) w (and_right _ _ (and_right _ _ g))
+    ∙ join2 look es elements env d.after lines block.marks d.marks
+    ∙ ap (λ (b : Laid). run look es (in_front look elements env lines kind inside rest b)) (sym (layout-code look inside env spacing (and_left _ _ (and_right _ _ g))))
+run-events_then look (Branch t inside rest) es elements env spacing lines p w g =
+    let env_in = environment_inside look.sheet env t in
     let a = enter look.sheet env spacing t in
-    let b = layout look within a.after inside in
-    let c = leave look env b.after t in
+    let b = layout look env_in a.after inside in
+    let c = leave look env b.after t (texts inside) in
     let d = layout look env c.after rest in
     run-events_then look inside (event.End (end_of t) ∷ events_then rest es) ((record { tag = t; environment = env }) ∷ elements)
-    within a.after (draws lines a.marks) (place_inside p t) (and_left _ _ (and_right _ _ g))
-    ∙ run-events_then look rest es elements env c.after (draws (draws (draws lines a.marks) b.marks) c.marks) (place_after p t) (and_right _ _ (and_right _ _ g))
+    env_in a.after (draws lines a.marks) (place_inside p t) w (and_left _ _ (and_right _ _ g))
+    ∙ run-events_then look rest es elements env c.after (draws (draws (draws lines a.marks) b.marks) c.marks) (place_after p t) w (and_right _ _ (and_right _ _ g))
     ∙ join4 look es elements env d.after lines a.marks b.marks c.marks d.marks
 
 -- a run over a document's events draws the document's lines
 pub run-events : (look : Look) (t : Nodes) → good t ≡ true → (run look (events t) first_state).lines ≡ document_lines look t
 run-events look t g =
-    ap (λ (state : State). state.lines) (run-events_then look t [] [] first_environment first_spacing [] document_place g)
+    ap (λ (state : State). state.lines) (run-events_then look t [] [] first_environment first_spacing [] document_place refl g)

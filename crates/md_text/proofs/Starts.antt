@@ -1,5 +1,8 @@
 -- Blocks begin lines of their own.
-use Rattle.std.proofs.Common.{◌≡◌, List, [], ◌∷◌, ◌++◌, Bool, true, false, not, ◌&&◌, refl}
+use Rattle.std.proofs.Common.{◌≡◌, ◌==◌, if◌then◌else◌, ℕ, List, [], ◌∷◌, ◌++◌, Bool, true, false, not, ◌&&◌, length, refl, ap}
+use Rattle.std.specs.Str.Lines.{lines}
+use Rattle.md_tree.specs.declared.event.CodeBlockKind.{CodeBlockKind}
+use Rattle.md_tree.specs.declared.event.Event.{Event}
 use Rattle.md_tree.specs.declared.event.Event.TheVariants as event
 use Rattle.md_tree.specs.declared.event.HeadingLevel.{HeadingLevel}
 use Rattle.md_tree.specs.declared.event.Tag.{Tag}
@@ -10,18 +13,25 @@ use Rattle.md_tree.specs.declared.place.Place.{Place}
 use Rattle.md_tree.specs.Tree.{Nodes, Empty, Leaf, Branch}
 use Rattle.md_tree.specs.Good.{good, good_at, holds_inlines, holds_text, holds_soft_break, place_inside, place_after, place_after_leaf, document_place}
 use Rattle.md_tree.proofs.Nodes.{and_left, and_right, and_false}
+use Rattle.ansi_text.specs.Ansi.{ansi}
 use Rattle.md_table.specs.Sheet.{Sheet}
 use Rattle.md_text.specs.declared.environment.Environment.{Environment}
 use Rattle.md_text.specs.declared.environment.Spacing.{Spacing}
 use Rattle.md_text.specs.declared.environment.Fresh.{Fresh}
 use Rattle.md_text.specs.declared.environment.Fresh.TheVariants as fresh
-use Rattle.md_text.specs.Marks.{Mark, Open, Put, Pad, begins_line}
-use Rattle.md_text.specs.Laid.{Laid}
+use Rattle.md_text.specs.declared.environment.Within.{Within}
+use Rattle.md_text.specs.declared.environment.Within.TheVariants.{Lines, Code}
+use Rattle.md_text.specs.Marks.{Mark, Open, Put, Pad, plain_span, begins_line}
+use Rattle.md_text.specs.Laid.{Laid, nothing_laid, then_laid, each_laid, open_laid, put_laid}
 use Rattle.md_text.specs.Look.{Look}
 use Rattle.md_text.specs.Environment.{first_environment, first_spacing, environment_inside}
 use Rattle.md_text.specs.Headings.{heading}
+use Rattle.md_text.specs.Texts.{texts}
+use Rattle.md_text.specs.Inlines.{text_lines, line_leaf, leaf_within}
+use Rattle.md_text.specs.Code.{info, recognised, code_environment, fence, coloured_line, answered_line, code_lines, code_block}
 use Rattle.md_text.specs.Blocks.{is_fresh, paragraph, enter, leave}
 use Rattle.md_text.specs.Layout.{layout, document_layout}
+use Rattle.md_text.proofs.CodeInside.{layout-code}
 
 -- the levels outside lines: they hold neither inlines nor texts
 abbrev pub outside_lines : Holds → Bool
@@ -80,10 +90,57 @@ paragraph-opens env false fresh.No any r = refl
 paragraph-opens env false fresh.Marker any r = cc
 paragraph-opens env false fresh.Prefix any r = cc
 
+fence-begins : (sheet : Sheet) (env : Environment) (spacing : Spacing) (bytes : List ℕ) → begins_line (fence sheet env spacing bytes).marks ≡ true
+fence-begins sheet env spacing bytes = by_test (length sheet.code_block_fence == 0)
+  where
+    by_test : (b : Bool) →
+        begins_line (if b then nothing_laid spacing
+        else then_laid (open_laid env spacing) (λ opened. put_laid opened (plain_span (sheet.code_block_fence ++ bytes)))).marks ≡ true
+    by_test true = refl
+    by_test false = refl
+
+-- what begins lines one by one
+each-begins : {A : Type 0} (one : Spacing → A → Laid) → ((spacing : Spacing) (x : A) → begins_line (one spacing x).marks ≡ true) →
+    (spacing : Spacing) (xs : List A) → begins_line (each_laid one spacing xs).marks ≡ true
+each-begins one h spacing [] = refl
+each-begins one h spacing (x ∷ xs) =
+    starts-append (one spacing x).marks (each_laid one (one spacing x).after xs).marks (h spacing x) (each-begins one h (one spacing x).after xs)
+
+answered_line-begins : (look : Look) (lang : List ℕ) (spacing : Spacing) (line : List ℕ) →
+    begins_line (answered_line look lang spacing line).marks ≡ true
+answered_line-begins look lang spacing line = each-begins coloured_line (λ _ _. refl) spacing (ansi (look.answer lang line))
+
+text_lines-begin : (env : Environment) (spacing : Spacing) (all : List (List ℕ)) → begins_line (text_lines false env spacing all).marks ≡ true
+text_lines-begin env spacing [] = refl
+text_lines-begin env spacing (line ∷ others) = refl
+
+code_lines-begin : (look : Look) (env : Environment) (spacing : Spacing) (kind : CodeBlockKind) (all : List (List ℕ)) →
+    begins_line (code_lines look env spacing kind all).marks ≡ true
+code_lines-begin look env spacing kind all = by_test (recognised look kind)
+  where
+    by_test : (b : Bool) →
+        begins_line (if b then each_laid (answered_line look (info kind)) spacing all else text_lines false env spacing all).marks ≡ true
+    by_test true = each-begins (answered_line look (info kind)) (answered_line-begins look (info kind)) spacing all
+    by_test false = text_lines-begin env spacing all
+
 heading-opens : (sheet : Sheet) (env : Environment) (due : Bool) (f : Fresh) (any : Bool) (level : HeadingLevel) →
     opens (heading sheet env (record { due = due; fresh = f; any_line = any }) level).marks ≡ true
 heading-opens sheet env true f any level = refl
 heading-opens sheet env false f any level = refl
+
+code_block-begins : (look : Look) (env : Environment) (due : Bool) (f : Fresh) (any : Bool) (kind : CodeBlockKind) (content : List ℕ) →
+    begins_line (code_block look env (record { due = due; fresh = f; any_line = any }) kind content).marks ≡ true
+code_block-begins look env due f true kind content = refl
+code_block-begins look env due f false kind content =
+    let env_in = code_environment look env kind in
+    let spacing : Spacing = record { due = due; fresh = f; any_line = false } in
+    let a = fence look.sheet env_in spacing (info kind) in
+    let b = code_lines look env_in a.after kind (lines content) in
+    let c = fence look.sheet env_in b.after [] in
+    starts-append (a.marks ++ (b.marks ++ c.marks)) []
+    (starts-append a.marks (b.marks ++ c.marks) (fence-begins look.sheet env_in spacing (info kind))
+    (starts-append b.marks c.marks (code_lines-begin look env_in a.after kind (lines content)) (fence-begins look.sheet env_in b.after [])))
+    refl
 
 -- what is laid out inside an element
 abbrev within : Look → Environment → Spacing → Tag → Nodes → Laid
@@ -91,7 +148,7 @@ within look env s t inside = layout look (environment_inside look.sheet env t) (
 
 -- the spacing state behind an element
 abbrev behind : Look → Environment → Spacing → Tag → Nodes → Spacing
-behind look env s t inside = (leave look env (within look env s t inside).after t).after
+behind look env s t inside = (leave look env (within look env s t inside).after t (texts inside)).after
 
 -- an element that begins with an Open, and then nodes that begin lines
 opening-begins : (look : Look) (env : Environment) (s : Spacing) (t : Tag) (inside rest : Nodes) →
@@ -100,7 +157,7 @@ opening-begins : (look : Look) (env : Environment) (s : Spacing) (t : Tag) (insi
 opening-begins look env s t inside rest h next =
     let a = enter look.sheet env s t in
     let b = within look env s t inside in
-    let c = leave look env b.after t in
+    let c = leave look env b.after t (texts inside) in
     record {
       starts = opens-append a.marks (b.marks ++ c.marks) (layout look env c.after rest).marks h;
       ready = next.ready;
@@ -109,17 +166,24 @@ opening-begins look env s t inside rest h next =
 -- an element whose parts begin lines, and then nodes that do
 parts-begin : (look : Look) (env : Environment) (s : Spacing) (t : Tag) (inside rest : Nodes) →
     begins_line (enter look.sheet env s t).marks ≡ true → begins_line (within look env s t inside).marks ≡ true →
-    begins_line (leave look env (within look env s t inside).after t).marks ≡ true →
+    begins_line (leave look env (within look env s t inside).after t (texts inside)).marks ≡ true →
     Begins (layout look env (behind look env s t inside) rest) → Begins (layout look env s (Branch t inside rest))
 parts-begin look env s t inside rest h i k next =
     let a = enter look.sheet env s t in
     let b = within look env s t inside in
-    let c = leave look env b.after t in
+    let c = leave look env b.after t (texts inside) in
     record {
       starts = starts-append (a.marks ++ (b.marks ++ c.marks)) (layout look env c.after rest).marks
           (starts-append a.marks (b.marks ++ c.marks) h (starts-append b.marks c.marks i k)) next.starts;
       ready = next.ready;
     }
+
+-- a leaf that is nothing, and then nodes that begin lines
+leaf-begins : (w : Within) (look : Look) (env : Environment) (s : Spacing) (e : Event) (rest : Nodes) →
+    line_leaf look.sheet env s e ≡ nothing_laid s → Begins (layout look env s rest) →
+    Begins (then_laid (leaf_within w look.sheet env s e) (λ behind. layout look env behind rest))
+leaf-begins Lines look env s e rest h next = rw h next
+leaf-begins Code look env s e rest h next = next
 
 -- good nodes outside lines begin lines
 pub layout-begins : (look : Look) (t : Nodes) (env : Environment) (s : Spacing) (p : Place) → outside_lines p.holds ≡ true → good_at p t ≡ true →
@@ -131,7 +195,8 @@ layout-begins look (Leaf (event.Text bytes) rest) env s p o g r = absurd (no_tex
 layout-begins look (Leaf (event.Code bytes) rest) env s p o g r = absurd (no_inlines p.holds o (and_left _ _ g))
 layout-begins look (Leaf event.SoftBreak rest) env s p o g r = absurd (no_soft_break p.holds o (and_left _ _ g))
 layout-begins look (Leaf event.HardBreak rest) env s p o g r = absurd (no_inlines p.holds o (and_left _ _ g))
-layout-begins look (Leaf e rest) env s p o g r = layout-begins look rest env s (place_after_leaf p) o (and_right _ _ g) r
+layout-begins look (Leaf e rest) env s p o g r =
+    leaf-begins env.within look env s e rest refl (layout-begins look rest env s (place_after_leaf p) o (and_right _ _ g) r)
 layout-begins look (Branch tag.Emphasis inside rest) env s p o g r = absurd (no_inlines p.holds o (and_left _ _ g))
 layout-begins look (Branch tag.Strong inside rest) env s p o g r = absurd (no_inlines p.holds o (and_left _ _ g))
 layout-begins look (Branch tag.Strikethrough inside rest) env s p o g r = absurd (no_inlines p.holds o (and_left _ _ g))
@@ -146,7 +211,10 @@ layout-begins look (Branch (tag.Heading h id classes attrs) inside rest) env s p
     opening-begins look env s (tag.Heading h id classes attrs) inside rest (heading-opens look.sheet env s.due s.fresh s.any_line h)
     (layout-begins look rest env (behind look env s (tag.Heading h id classes attrs) inside) (place_after p (tag.Heading h id classes attrs)) o (and_right _ _ (and_right _ _ g)) (and_false _))
 layout-begins look (Branch (tag.CodeBlock kind) inside rest) env s p o g r =
-    opening-begins look env s (tag.CodeBlock kind) inside rest (paragraph-opens env s.due s.fresh s.any_line r)
+    let b = within look env s (tag.CodeBlock kind) inside in
+    parts-begin look env s (tag.CodeBlock kind) inside rest refl
+    (ap (λ (laid : Laid). begins_line laid.marks) (layout-code look inside env s (and_left _ _ (and_right _ _ g))))
+    (code_block-begins look env b.after.due b.after.fresh b.after.any_line kind (texts inside))
     (layout-begins look rest env (behind look env s (tag.CodeBlock kind) inside) (place_after p (tag.CodeBlock kind)) o (and_right _ _ (and_right _ _ g)) (and_false _))
 layout-begins look (Branch tag.HtmlBlock inside rest) env s p o g r =
     opening-begins look env s tag.HtmlBlock inside rest (paragraph-opens env s.due s.fresh s.any_line r)

@@ -1,5 +1,5 @@
 -- What elements lay out before and behind what is inside them.
-use Rattle.std.specs.Prelude.{if◌then◌else◌, Bool, true, false, not, ◌&&◌}
+use Rattle.std.specs.Prelude.{ℕ, List, if◌then◌else◌, Bool, true, false, not, ◌&&◌}
 use Rattle.md_tree.specs.declared.event.Tag.{Tag}
 use Rattle.md_tree.specs.declared.event.Tag.TheVariants as tag
 use Rattle.md_table.specs.Sheet.{Sheet}
@@ -11,6 +11,7 @@ use Rattle.md_text.specs.Laid.{Laid, nothing_laid, then_laid, open_laid, gap_lai
 use Rattle.md_text.specs.Look.{Look}
 use Rattle.md_text.specs.Headings.{heading, heading_end}
 use Rattle.md_text.specs.Inlines.{link_end}
+use Rattle.md_text.specs.Code.{code_block}
 
 abbrev pub is_fresh : Fresh → Bool
 is_fresh fresh.No = false
@@ -29,7 +30,6 @@ paragraph env spacing =
 abbrev pub enter : Sheet → Environment → Spacing → Tag → Laid
 enter sheet env spacing tag.Paragraph = paragraph env spacing
 enter sheet env spacing (tag.Heading level id classes attrs) = heading sheet env spacing level
-enter sheet env spacing (tag.CodeBlock kind) = paragraph env spacing
 enter sheet env spacing tag.HtmlBlock = paragraph env spacing
 enter sheet env spacing tag.Item = paragraph env spacing
 enter sheet env spacing tag.DefinitionListTitle = paragraph env spacing
@@ -38,16 +38,16 @@ enter sheet env spacing tag.TableCell = paragraph env spacing
 enter sheet env spacing tag.MetadataBlock = paragraph env spacing
 enter sheet env spacing _ = nothing_laid spacing
 
--- behind what is inside: a line is due behind a paragraph, and behind what begins as one
-abbrev pub leave : Look → Environment → Spacing → Tag → Laid
-leave look env spacing tag.Paragraph = nothing_laid (with_due true spacing)
-leave look env spacing (tag.Heading level id classes attrs) = heading_end look.sheet spacing id classes attrs
-leave look env spacing (tag.CodeBlock kind) = nothing_laid (with_due true spacing)
-leave look env spacing tag.HtmlBlock = nothing_laid (with_due true spacing)
-leave look env spacing tag.Item = nothing_laid (with_due true spacing)
-leave look env spacing tag.DefinitionListTitle = nothing_laid (with_due true spacing)
-leave look env spacing tag.DefinitionListDefinition = nothing_laid (with_due true spacing)
-leave look env spacing tag.TableCell = nothing_laid (with_due true spacing)
-leave look env spacing tag.MetadataBlock = nothing_laid (with_due true spacing)
-leave look env spacing (tag.Link dest) = link_end look.sheet spacing dest
-leave look env spacing _ = nothing_laid spacing
+-- behind what is inside, whose joined texts are content: a line is due behind a paragraph, and behind what begins as one
+abbrev pub leave : Look → Environment → Spacing → Tag → List ℕ → Laid
+leave look env spacing tag.Paragraph content = nothing_laid (with_due true spacing)
+leave look env spacing (tag.Heading level id classes attrs) content = heading_end look.sheet spacing id classes attrs
+leave look env spacing (tag.CodeBlock kind) content = code_block look env spacing kind content
+leave look env spacing tag.HtmlBlock content = nothing_laid (with_due true spacing)
+leave look env spacing tag.Item content = nothing_laid (with_due true spacing)
+leave look env spacing tag.DefinitionListTitle content = nothing_laid (with_due true spacing)
+leave look env spacing tag.DefinitionListDefinition content = nothing_laid (with_due true spacing)
+leave look env spacing tag.TableCell content = nothing_laid (with_due true spacing)
+leave look env spacing tag.MetadataBlock content = nothing_laid (with_due true spacing)
+leave look env spacing (tag.Link dest) content = link_end look.sheet spacing dest
+leave look env spacing _ content = nothing_laid spacing

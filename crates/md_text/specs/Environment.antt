@@ -9,10 +9,11 @@ use Rattle.md_table.specs.Sheet.{Sheet}
 use Rattle.md_text.specs.declared.environment.Environment.{Environment}
 use Rattle.md_text.specs.declared.environment.Spacing.{Spacing}
 use Rattle.md_text.specs.declared.environment.Fresh.TheVariants.{No}
+use Rattle.md_text.specs.declared.environment.Within.TheVariants.{Lines, Code}
 
--- a document stands in no quote, and sets no style
+-- a document stands in no quote, and sets no style; its leaves stand in lines
 abbrev pub first_environment : Environment
-first_environment = record { quotes = 0; line_style = no_style; inline_style = no_style }
+first_environment = record { quotes = 0; line_style = no_style; inline_style = no_style; within = Lines }
 
 -- before the first block no line is due, and none was opened
 abbrev pub first_spacing : Spacing
@@ -25,7 +26,8 @@ crossed_out style = with_modifier style (record { 0 = 256 })
 abbrev pub styled : Environment → Style → Environment
 styled env style = record env { inline_style = patch env.inline_style style }
 
--- inside an element: styled inlines and links patch the inline style, and others leave all as it is
+-- inside an element: styled inlines and links patch the inline style, the leaves of a block of code are its content,
+-- and others leave all as it is
 abbrev pub environment_inside : Sheet → Environment → Tag → Environment
 environment_inside sheet env tag.Emphasis = styled env (italic no_style)
 environment_inside sheet env tag.Strong = styled env (bold no_style)
@@ -33,4 +35,5 @@ environment_inside sheet env tag.Strikethrough = styled env (crossed_out no_styl
 environment_inside sheet env tag.Superscript = styled env (italic (dim no_style))
 environment_inside sheet env tag.Subscript = styled env (italic (dim no_style))
 environment_inside sheet env (tag.Link dest) = styled env sheet.link
+environment_inside sheet env (tag.CodeBlock kind) = record env { within = Code }
 environment_inside sheet env _ = env

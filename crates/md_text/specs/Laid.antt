@@ -54,7 +54,11 @@ put_laid spacing span =
       after = record { due = spacing.due; fresh = fresh.No; any_line = spacing.any_line };
     }
 
+-- what each of some things lays out, one after another
+abbrev pub each_laid : {A : Type 0} → (Spacing → A → Laid) → Spacing → List A → Laid
+each_laid one spacing [] = nothing_laid spacing
+each_laid one spacing (x ∷ xs) = then_laid (one spacing x) (λ behind. each_laid one behind xs)
+
 -- spans put one after another
 abbrev pub put_all : Spacing → List SpanView → Laid
-put_all spacing [] = nothing_laid spacing
-put_all spacing (span ∷ spans) = then_laid (put_laid spacing span) (λ behind. put_all behind spans)
+put_all spacing spans = each_laid put_laid spacing spans

@@ -1,5 +1,5 @@
 -- The layout of a tree.
-use Rattle.std.specs.Prelude.{List, []}
+use Rattle.std.specs.Prelude.{ℕ, List, []}
 use Rattle.term_text.specs.Text.{LineView}
 use Rattle.md_tree.specs.declared.event.Tag.{Tag}
 use Rattle.md_tree.specs.Tree.{Nodes, Empty, Leaf, Branch}
@@ -9,21 +9,22 @@ use Rattle.md_text.specs.Marks.{draws}
 use Rattle.md_text.specs.Laid.{Laid, nothing_laid, then_laid}
 use Rattle.md_text.specs.Look.{Look}
 use Rattle.md_text.specs.Environment.{first_environment, first_spacing, environment_inside}
+use Rattle.md_text.specs.Texts.{texts}
 use Rattle.md_text.specs.Blocks.{enter, leave}
 use Rattle.md_text.specs.Inlines.{leaf}
 
 -- an element: what stands before, in and behind it
-abbrev pub branch : Look → Environment → Spacing → Tag → (Spacing → Laid) → Laid
-branch look env spacing tag inside =
+abbrev pub branch : Look → Environment → Spacing → Tag → (Spacing → Laid) → List ℕ → Laid
+branch look env spacing tag inside content =
     then_laid (enter look.sheet env spacing tag) (λ entered.
-    then_laid (inside entered) (λ behind. leave look env behind tag))
+    then_laid (inside entered) (λ behind. leave look env behind tag content))
 
 -- the environment is only handed down: what follows an element has the environment from before it
 abbrev pub layout : Look → Environment → Spacing → Nodes → Laid
 layout look env spacing Empty = nothing_laid spacing
 layout look env spacing (Leaf e rest) = then_laid (leaf look.sheet env spacing e) (λ behind. layout look env behind rest)
 layout look env spacing (Branch tag inside rest) =
-    then_laid (branch look env spacing tag (λ entered. layout look (environment_inside look.sheet env tag) entered inside))
+    then_laid (branch look env spacing tag (λ entered. layout look (environment_inside look.sheet env tag) entered inside) (texts inside))
     (λ behind. layout look env behind rest)
 
 -- the layout of a document

@@ -4,8 +4,10 @@ pub mod Look
 pub mod Environment
 pub mod Headings
 pub mod Words
+pub mod Texts
 pub mod Blocks
 pub mod Inlines
+pub mod Code
 pub mod Layout
 pub mod Pieces
 pub mod State

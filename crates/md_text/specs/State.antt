@@ -1,32 +1,41 @@
 -- The machine that lays out a tree from its events, one by one.
-use Rattle.std.specs.Prelude.{List, [], ◌∷◌}
+use Rattle.std.specs.Prelude.{ℕ, List, [], ◌∷◌, ◌++◌}
 use Rattle.term_text.specs.Text.{LineView}
 use Rattle.md_tree.specs.declared.event.Event.{Event}
 use Rattle.md_tree.specs.declared.event.Event.TheVariants as event
 use Rattle.md_tree.specs.declared.event.Tag.{Tag}
 use Rattle.md_text.specs.declared.environment.Environment.{Environment}
 use Rattle.md_text.specs.declared.environment.Spacing.{Spacing}
+use Rattle.md_text.specs.declared.environment.Within.{Within}
+use Rattle.md_text.specs.declared.environment.Within.TheVariants.{Lines, Code}
 use Rattle.md_text.specs.Marks.{draws}
 use Rattle.md_text.specs.Laid.{Laid}
 use Rattle.md_text.specs.Look.{Look}
 use Rattle.md_text.specs.Environment.{first_environment, first_spacing, environment_inside}
+use Rattle.md_text.specs.Texts.{leaf_text}
 use Rattle.md_text.specs.Blocks.{enter, leave}
 use Rattle.md_text.specs.Inlines.{leaf}
+
+abbrev pub content_within : Within → List ℕ → Event → List ℕ
+content_within Lines content e = content
+content_within Code content e = content ++ leaf_text e
 
 -- an element that has begun, and the environment round it
 pub record Begun : Type 0 where
   pub tag : Tag
   pub environment : Environment
 
--- the open elements, innermost first, the environment and the spacing state here, and the lines so far
+-- the open elements, innermost first, the environment and the spacing state here, the content of the open block of code
+-- so far, and the lines so far
 pub record State : Type 0 where
   pub open_elements : List Begun
   pub environment : Environment
   pub spacing : Spacing
+  pub content : List ℕ
   pub lines : List LineView
 
 abbrev pub first_state : State
-first_state = record { open_elements = []; environment = first_environment; spacing = first_spacing; lines = [] }
+first_state = record { open_elements = []; environment = first_environment; spacing = first_spacing; content = []; lines = [] }
 
 -- a layout is drawn
 abbrev pub laid : State → Laid → State
@@ -35,6 +44,7 @@ laid state new =
       open_elements = state.open_elements;
       environment = state.environment;
       spacing = new.after;
+      content = state.content;
       lines = draws state.lines new.marks;
     }
 
@@ -46,6 +56,7 @@ started look state tag =
       open_elements = record { tag = tag; environment = state.environment } ∷ state.open_elements;
       environment = environment_inside look.sheet state.environment tag;
       spacing = entered.after;
+      content = state.content;
       lines = draws state.lines entered.marks;
     }
 
@@ -53,16 +64,22 @@ started look state tag =
 abbrev pub ended_from : Look → State → List Begun → State
 ended_from look state [] = state
 ended_from look state (element ∷ outer) =
-    laid (record state { open_elements = outer; environment = element.environment })
-    (leave look element.environment state.spacing element.tag)
+    laid (record state { open_elements = outer; environment = element.environment; content = [] })
+    (leave look element.environment state.spacing element.tag state.content)
 
 abbrev pub ended : Look → State → State
 ended look state = ended_from look state state.open_elements
 
+-- a leaf is laid out, or is content
+abbrev pub leaf_step : Look → State → Event → State
+leaf_step look state e =
+    laid (record state { content = content_within state.environment.within state.content e })
+    (leaf look.sheet state.environment state.spacing e)
+
 abbrev pub step : Look → State → Event → State
 step look state (event.Start tag) = started look state tag
 step look state (event.End end) = ended look state
-step look state e = laid state (leaf look.sheet state.environment state.spacing e)
+step look state e = leaf_step look state e
 
 -- the events, one after another
 abbrev pub run : Look → List Event → State → State

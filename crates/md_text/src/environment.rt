@@ -6,6 +6,15 @@ use md_events::Tag;
 use md_table::StyleSheet;
 use term_text::Style;
 
+/// What leaves stand in.
+#[derive(Clone, Copy)]
+pub enum Within {
+    /// Lines that they add to.
+    Lines,
+    /// A block of code, whose content they are.
+    Code,
+}
+
 /// What is handed down into elements, and never comes back from them.
 #[derive(Clone, Copy)]
 pub struct Environment {
@@ -14,6 +23,7 @@ pub struct Environment {
     /// The style under a whole line.
     pub line_style: Style,
     pub inline_style: Style,
+    pub within: Within,
 }
 
 /// Whether an item's marker or a prefix is all that stands on the last line.
@@ -43,6 +53,7 @@ impl Environment {
             quotes: 0,
             line_style: Style::new(),
             inline_style: Style::new(),
+            within: Within::Lines,
         }
     }
 
@@ -56,6 +67,10 @@ impl Environment {
             Tag::Strikethrough => self.styled(Style::new().crossed_out()),
             Tag::Superscript | Tag::Subscript => self.styled(Style::new().dim().italic()),
             Tag::Link { .. } => self.styled(sheet.link()),
+            Tag::CodeBlock(_) => Environment {
+                within: Within::Code,
+                ..self
+            },
             _ => self,
         }
     }

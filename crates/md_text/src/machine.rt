@@ -11,6 +11,7 @@ use std::marker::Model;
 use term_text::{CowStr, Line, Span, Stack, Style, Text};
 
 mod blocks;
+mod code;
 mod headings;
 mod inlines;
 mod walk;
@@ -22,15 +23,18 @@ pub struct Machine<'e, 'a> {
     frames: Stack<Frame<'e, 'a>>,
     environment: Environment,
     spacing: Spacing,
+    // The texts of the open block of code so far.
+    content: String,
     lines: Vec<Line<'a>>,
 }
 
 impl<'e, 'a> Model for Machine<'e, 'a> {
+    ghost use Rattle.std.specs.Prelude.{string_bytes};
     ghost use Rattle.md_text.specs.State.{State};
 
     ghost Value = { State };
 
-    ghost view = { λ m. record { open_elements = m.frames; environment = m.environment; spacing = m.spacing; lines = m.lines.items } };
+    ghost view = { λ m. record { open_elements = m.frames; environment = m.environment; spacing = m.spacing; content = string_bytes m.content; lines = m.lines.items } };
 }
 
 impl<'e, 'a> Machine<'e, 'a> {
@@ -43,6 +47,7 @@ impl<'e, 'a> Machine<'e, 'a> {
             frames: Stack::new(alloc),
             environment: Environment::first(),
             spacing: Spacing::first(),
+            content: String::new(alloc),
             lines: Vec::new(alloc),
         }
     }

@@ -1,9 +1,9 @@
 use crate::render::laid_out;
 use crate::{
-    AnsiFence, DefaultStyleSheet, NoHighlight, Options, RenderError, StyleSheet, from_str,
-    from_str_with_options,
+    AnsiFence, CustomSheet, DefaultStyleSheet, Highlighter, NoHighlight, Options, RenderError,
+    StyleSheet, from_str, from_str_with_options,
 };
-use md_events::{Attrs, Classes, Event, HeadingLevel, Tag, built};
+use md_events::{Attrs, Classes, CodeBlockKind, Event, HeadingLevel, Tag, TagEnd, built};
 use std::alloc::{AllocError, Global};
 use std::test::Fail;
 use term_text::{CowStr, Line, Style, Text};
@@ -25,6 +25,9 @@ fn style_name(style: Style) -> &'static str {
         (plain.dim().italic(), "<script>"),
         (plain.italic().bold(), "<bold italic>"),
         (sheet.link().bold(), "<bold link>"),
+        (Style::reset(), "<reset>"),
+        (plain.red(), "<red>"),
+        (Style::reset().red(), "<reset red>"),
     ];
     for (named, name) in names {
         if style == named {
@@ -180,6 +183,134 @@ fn inlines_patch_the_style_that_they_stand_in(rt: HostRuntime) -> Result<(), Fai
         drawn.as_str(),
         "|a<bold>|b<code>| |d<bold link>| (|e<link>|)|f<bold italic>|g<struck>|\n|h<struck>|i<script>|j<script>|k|\n"
     );
+    Ok(())
+}
+
+// A block of code between two paragraphs of `p`.
+fn code_between(kind: CodeBlockKind<'static>, lines: [&'static str; 3]) -> [Event<'static>; 11] {
+    let [first, second, third] = lines;
+    [
+        Event::Start(Tag::Paragraph),
+        text("p"),
+        Event::End(Tag::Paragraph.end()),
+        Event::Start(Tag::CodeBlock(kind)),
+        text(first),
+        text(second),
+        text(third),
+        Event::End(TagEnd::CodeBlock),
+        Event::Start(Tag::Paragraph),
+        text("p"),
+        Event::End(Tag::Paragraph.end()),
+    ]
+}
+
+fn fenced(info: &'static str) -> CodeBlockKind<'static> {
+    CodeBlockKind::Fenced(CowStr::borrowed(info))
+}
+
+#[test]
+fn code_stands_between_fences_in_the_style_of_code(rt: HostRuntime) -> Result<(), Fail> {
+    let events = code_between(fenced("rust"), ["a\r", "\n\nb", "\n"]);
+    let drawn = drawn_events(rt.alloc(), &events)?;
+    assert_eq!(rt;
+        drawn.as_str(),
+        "|p|\n|\n<code>|```rust|\n<code>|a|\n<code>|\n<code>|b|\n<code>|```|\n|\n|p|\n"
+    );
+    Ok(())
+}
+
+#[test]
+fn code_that_comes_first_has_no_empty_line_before_it(rt: HostRuntime) -> Result<(), Fail> {
+    let events = [
+        Event::Start(Tag::CodeBlock(CodeBlockKind::Indented)),
+        text("a\nb"),
+        Event::End(TagEnd::CodeBlock),
+    ];
+    let drawn = drawn_events(rt.alloc(), &events)?;
+    assert_eq!(rt;
+        drawn.as_str(),
+        "<code>|```|\n<code>|a|\n<code>|b|\n<code>|```|\n"
+    );
+    Ok(())
+}
+
+#[test]
+fn a_sheet_without_a_fence_shows_the_lines_alone(rt: HostRuntime) -> Result<(), Fail> {
+    let sheet = CustomSheet::default().with_code_block_fence("");
+    let events = code_between(fenced("rust"), ["a", "\n", "b"]);
+    let text = laid_out(rt.alloc(), &events, &Options::new(sheet), &NoHighlight)?;
+    let drawn = drawn(rt.alloc(), &text)?;
+    assert_eq!(rt; drawn.as_str(), "|p|\n|\n<code>|a|\n<code>|b|\n|\n|p|\n");
+    Ok(())
+}
+
+#[test]
+fn ansi_code_is_drawn_in_its_colours(rt: HostRuntime) -> Result<(), Fail> {
+    let events = code_between(fenced("ansi"), ["\x1b[31ma\n", "b\r", "c\n"]);
+    let text = laid_out(rt.alloc(), &events, &Options::default(), &AnsiFence)?;
+    let drawn = drawn(rt.alloc(), &text)?;
+    assert_eq!(rt;
+        drawn.as_str(),
+        "|p|\n|\n|```ansi|\n|a<red>|\n|b|\n|c|\n|```|\n|\n|p|\n"
+    );
+    Ok(())
+}
+
+#[test]
+fn indented_code_is_never_asked_of_a_highlighter(rt: HostRuntime) -> Result<(), Fail> {
+    let events = code_between(CodeBlockKind::Indented, ["fn", "", ""]);
+    let text = laid_out(rt.alloc(), &events, &Options::default(), &Keywords)?;
+    let drawn = drawn(rt.alloc(), &text)?;
+    assert_eq!(rt;
+        drawn.as_str(),
+        "|p|\n|\n<code>|```|\n<code>|fn|\n<code>|```|\n|\n|p|\n"
+    );
+    Ok(())
+}
+
+// A highlighter of a user's own, for a language whose keyword `begin` stands on lines of its own, in red.
+struct Keywords;
+
+impl Highlighter for Keywords {
+    ghost use Rattle.std.specs.Prelude.{codes, ◌++◌, if◌then◌else◌};
+    ghost use Rattle.std.specs.Str.{bytes_eq};
+
+    ghost known = { λ _ lang. bytes_eq lang (codes "words") };
+
+    ghost answer = { λ _ lang line. if bytes_eq line (codes "begin") then codes "\u{1b}[31m" ++ line else line };
+
+    fn recognises(&self, lang: &str) -> bool {
+        lang == "words"
+    }
+
+    fn line(&self, alloc: Global, _lang: &str, line: &str) -> Result<String, AllocError> {
+        if line != "begin" {
+            return String::from_str(alloc, line);
+        }
+        let mut text = String::from_str(alloc, "\x1b[31m")?;
+        text.push_str(line)?;
+        Ok(text)
+    }
+}
+
+#[test]
+fn a_highlighter_of_ones_own_is_asked_for_each_line(rt: HostRuntime) -> Result<(), Fail> {
+    let rows = [
+        (
+            "words",
+            "|p|\n|\n|```words|\n|begin<red>|\n|a|\n|```|\n|\n|p|\n",
+        ),
+        (
+            "other",
+            "|p|\n|\n<code>|```other|\n<code>|begin|\n<code>|a|\n<code>|```|\n|\n|p|\n",
+        ),
+    ];
+    for (info, want) in rows {
+        let events = code_between(fenced(info), ["begin", "\n", "a\n"]);
+        let text = laid_out(rt.alloc(), &events, &Options::default(), &Keywords)?;
+        let drawn = drawn(rt.alloc(), &text)?;
+        assert_eq!(rt; drawn.as_str(), want, "{info}");
+    }
     Ok(())
 }
 

@@ -25,7 +25,6 @@ impl<'e, 'a> Machine<'e, 'a> {
         match tag {
             Tag::Heading { level, .. } => self.heading(sheet, *level),
             Tag::Paragraph
-            | Tag::CodeBlock(_)
             | Tag::HtmlBlock
             | Tag::Item
             | Tag::DefinitionListTitle
@@ -50,15 +49,16 @@ impl<'e, 'a> Machine<'e, 'a> {
         Ok(())
     }
 
-    /// What an element lays out behind its inside.
+    /// What an element lays out behind its inside, whose joined texts are given.
     pub(super) fn leave<S: StyleSheet, H: Highlighter>(
         &mut self,
         options: &Options<S>,
-        _highlighter: &H,
+        highlighter: &H,
         tag: &Tag<'a>,
+        content: &str,
     ) -> Result<(), AllocError>
         ensures { OnOk result (self.new
-            ≡ laid self.old (leave (look_of options.now S.sheet (H.known _highlighter.now) (H.answer _highlighter.now)) self.old.environment self.old.spacing tag.now)) }
+            ≡ laid self.old (leave (look_of options.now S.sheet (H.known highlighter.now) (H.answer highlighter.now)) self.old.environment self.old.spacing tag.now content.now)) }
     {
         match tag {
             Tag::Heading {
@@ -68,8 +68,8 @@ impl<'e, 'a> Machine<'e, 'a> {
                 ..
             } => self.heading_end(options.styles(), id, classes, attrs),
             Tag::Link { dest_url } => self.link_end(options.styles(), dest_url),
+            Tag::CodeBlock(kind) => self.code_block(options, highlighter, kind, content),
             Tag::Paragraph
-            | Tag::CodeBlock(_)
             | Tag::HtmlBlock
             | Tag::Item
             | Tag::DefinitionListTitle

@@ -1,7 +1,8 @@
 // What inlines lay out.
 ghost use Rattle.std.specs.Prelude.{◌≡◌, OnOk};
-ghost use Rattle.md_text.specs.Inlines.{begin_line, text_line, text, code, soft_break, link_end, leaf};
+ghost use Rattle.md_text.specs.Inlines.{begin_line, text_line, text, code, soft_break, link_end, text_lines, line_leaf};
 ghost use Rattle.md_text.specs.State.{laid};
+ghost use Rattle.std.specs.Str.Lines.{lines};
 
 use super::Machine;
 use md_events::Event;
@@ -10,14 +11,14 @@ use std::alloc::AllocError;
 use term_text::{CowStr, Span};
 
 impl<'e, 'a> Machine<'e, 'a> {
-    /// What a leaf lays out; those without a row as yet are laid out as nothing.
-    pub(super) fn leaf<S: StyleSheet>(
+    /// What a leaf in lines lays out; those without a row as yet are laid out as nothing.
+    pub(super) fn line_leaf<S: StyleSheet>(
         &mut self,
         sheet: &S,
         event: &Event<'a>,
     ) -> Result<(), AllocError>
         ensures { OnOk result (self.new
-            ≡ laid self.old (leaf (S.sheet sheet.now) self.old.environment self.old.spacing event.now)) }
+            ≡ laid self.old (line_leaf (S.sheet sheet.now) self.old.environment self.old.spacing event.now)) }
     {
         match event {
             Event::Text(content) => self.text(content),
@@ -34,7 +35,7 @@ impl<'e, 'a> Machine<'e, 'a> {
     {
         match content.as_borrowed() {
             Some(borrowed) => self.borrowed_text(borrowed),
-            None => self.owned_text(content.as_str()),
+            None => self.copied_lines(true, content.as_str()),
         }
     }
 
@@ -49,10 +50,11 @@ impl<'e, 'a> Machine<'e, 'a> {
         Ok(())
     }
 
-    fn owned_text(&mut self, content: &str) -> Result<(), AllocError>
-        ensures { OnOk result (self.new ≡ laid self.old (text self.old.environment self.old.spacing content.now)) }
+    /// The lines of a text, copied; the first one joins, or opens a line as the others do.
+    pub(super) fn copied_lines(&mut self, joins: bool, content: &str) -> Result<(), AllocError>
+        ensures { OnOk result (self.new ≡ laid self.old (text_lines joins self.old.environment self.old.spacing (lines content.now))) }
     {
-        let mut is_first = true;
+        let mut is_first = joins;
         for line in content.lines() {
             let owned = String::from_str(self.alloc, line)?;
             self.text_line(is_first, CowStr::owned(owned))?;

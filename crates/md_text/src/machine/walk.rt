@@ -1,15 +1,18 @@
 // The walk over events.
-ghost use Rattle.std.specs.Prelude.{◌≡◌, OnOk};
+ghost use Rattle.std.specs.Prelude.{◌≡◌, ◌++◌, OnOk};
 ghost use Rattle.md_text.specs.Look.{look_of};
-ghost use Rattle.md_text.specs.State.{started, ended, step, run};
+ghost use Rattle.md_text.specs.State.{started, ended, leaf_step, step, run};
+ghost use Rattle.md_text.specs.Texts.{leaf_text};
 
 use super::Machine;
+use crate::environment::Within;
 use crate::frame::Frame;
 use crate::highlight::Highlighter;
 use crate::options::Options;
 use md_events::{Event, Tag};
 use md_table::StyleSheet;
 use std::alloc::AllocError;
+use std::mem;
 
 impl<'e, 'a> Machine<'e, 'a> {
     /// Lays out what the events say, one after another.
@@ -40,7 +43,7 @@ impl<'e, 'a> Machine<'e, 'a> {
         match event {
             Event::Start(tag) => self.start(options, highlighter, tag),
             Event::End(_) => self.end(options, highlighter),
-            leaf => self.leaf(options.styles(), leaf),
+            leaf => self.leaf_step(options, highlighter, leaf),
         }
     }
 
@@ -62,6 +65,32 @@ impl<'e, 'a> Machine<'e, 'a> {
         Ok(())
     }
 
+    /// A leaf is laid out, or is content of the open block of code.
+    fn leaf_step<S: StyleSheet, H: Highlighter>(
+        &mut self,
+        options: &Options<S>,
+        _highlighter: &H,
+        leaf: &Event<'a>,
+    ) -> Result<(), AllocError>
+        ensures { OnOk result (self.new
+            ≡ leaf_step (look_of options.now S.sheet (H.known _highlighter.now) (H.answer _highlighter.now)) self.old leaf.now) }
+    {
+        match self.environment.within {
+            Within::Lines => self.line_leaf(options.styles(), leaf),
+            Within::Code => self.keep(leaf),
+        }
+    }
+
+    /// The text of a leaf is content.
+    fn keep(&mut self, leaf: &Event<'a>) -> Result<(), AllocError>
+        ensures { OnOk result (self.new ≡ record self.old { content = self.old.content ++ leaf_text leaf.now }) }
+    {
+        if let Event::Text(text) = leaf {
+            self.content.push_str(text.as_str())?;
+        }
+        Ok(())
+    }
+
     /// The innermost element ends, if there is one.
     fn end<S: StyleSheet, H: Highlighter>(
         &mut self,
@@ -75,7 +104,8 @@ impl<'e, 'a> Machine<'e, 'a> {
             None => Ok(()),
             Some(frame) => {
                 self.environment = frame.environment;
-                self.leave(options, highlighter, frame.tag)
+                let content = mem::replace(&mut self.content, String::new(self.alloc));
+                self.leave(options, highlighter, frame.tag, content.as_str())
             }
         }
     }

@@ -6,7 +6,7 @@ use Rattle.std.specs.Str.Lines.{lines}
 use Rattle.md_text.specs.Inlines.{text_line}
 use Rattle.md_text.specs.State.{State, laid}
 use Rattle.md_text.proofs.TextLines.{rest_laid, rest_laid-line, rest_laid-end}
-use Rattle.md_text.proofs.machine.Machine.owned_text.Goals as goal
+use Rattle.md_text.proofs.machine.Machine.copied_lines.Goals as goal
 
 pub loop-line-preserved : goal.loop-line-preserved
 loop-line-preserved c =
