@@ -4,7 +4,7 @@ ghost use Rattle.md_leaves.specs.Ahead.{Knows};
 ghost use Rattle.md_leaves.specs.Cuts.{AreLeaves};
 ghost use Rattle.md_leaves.specs.Leaves.{first_cut, leaves, marked, or_text, text_length, text_step};
 
-use crate::bytes::{Class, rest_of, stretch};
+use crate::bytes::{Class, byte_at, ends_line, rest_of, stretch};
 use crate::closer::closer;
 use crate::code::code;
 use crate::leaf::{Kind, Leaf};
@@ -29,16 +29,17 @@ fn text_step(bytes: &[u8]) -> usize
 {
     match bytes[0] {
         b' ' | b'\t' => {
-            if line_end(bytes).is_some() {
+            let blanks = stretch(bytes, Class::Blank);
+            if ends_line(byte_at(bytes, blanks)) {
                 0
             } else {
-                stretch(bytes, Class::Blank)
+                blanks
             }
         }
         b'\\' => !escape(bytes).is_some() as usize,
         b'!' => !opener(bytes).is_some() as usize,
         b'\n' | b'\r' | b'`' | b'[' | b']' | b'*' | b'_' | b'~' | b'^' => 0,
-        _ => 1,
+        _ => 1 + stretch(rest_of(bytes, 1), Class::Letter),
     }
 }
 
@@ -76,16 +77,23 @@ fn marked(source: &str, at: usize, ahead: &mut Ahead) -> Result<Option<Cut>, All
 {
     let bytes = source.as_bytes();
     let rest = rest_of(bytes, at);
-    let code = code(bytes, at, &mut ahead.runs)?;
-    let closer = closer(bytes, at, &mut ahead.parens)?;
-    Ok(
-        escape(rest)
-            .or(line_end(rest))
-            .or(code)
-            .or(opener(rest))
-            .or(closer)
-            .or(run(source, at)),
-    )
+    let first = bytes[at];
+    if first == b'\\' {
+        return Ok(escape(rest));
+    }
+    if first == b'`' {
+        return Ok(code(bytes, at, &mut ahead.runs)?);
+    }
+    if first == b'!' {
+        return Ok(opener(rest));
+    }
+    if first == b'[' {
+        return Ok(opener(rest));
+    }
+    if first == b']' {
+        return Ok(closer(bytes, at, &mut ahead.parens)?);
+    }
+    Ok(run(source, at).or(line_end(rest)))
 }
 
 /// The cut of the rule that fits, or else text.
