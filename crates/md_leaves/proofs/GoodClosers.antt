@@ -198,7 +198,7 @@ destination-good source at utf8 = go (slice_index (drop at source) 0 == 60) (sli
       stop = λ b. b;
     }
 
-    go : (opens closes : Bool) → (slice_index (drop at source) 0 == 60) ≡ opens → (slice_index (drop at source) (n + 1) == 62) ≡ closes → IsForm source at (cond (opens && closes) (let form : Form = record { from = 1; to = n + 1; all = n + 2 } in form) (record { from = 0; to = plain; all = plain }))
+    go : (opens closes : Bool) → (slice_index (drop at source) 0 == 60) ≡ opens → (slice_index (drop at source) (n + 1) == 62) ≡ closes → IsForm source at (unwrap_or (cond (opens && closes) (Some (let form : Form = record { from = 1; to = n + 1; all = n + 2 } in form)) None) (record { from = 0; to = plain; all = plain }))
     go true true o c =
         let first : get_or source at 0 ≡ 60 = ap (λ k. get_or source k 0) (sym (add-zero at)) ∙ byte-is source at 0 60 (same (slice_index (drop at source) 0) 60 o) in
         let last : get_or source (at + (n + 1)) 0 ≡ 62 = byte-is source at (n + 1) 62 (same (slice_index (drop at source) (n + 1)) 62 c) in

@@ -7,3 +7,5 @@ pub mod PlaceLemmas
 pub mod GoodCuts
 pub mod GoodClosers
 pub mod GoodLeaves
+pub mod TickLemmas
+pub mod StopLemmas

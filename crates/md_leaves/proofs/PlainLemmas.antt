@@ -59,7 +59,7 @@ next-value at level (suc next) end found bs here is = go (balanced (suc next) bs
     go None = is.opened (omega arith) ∙ sym (end_of-empty at level end here)
     go (Some k) = omega arith
 
-balanced-at : (bytes : List ℕ) (at level : ℕ) → at < length bytes → at_bar (drop at bytes) ≡ false → balanced level (drop at bytes) ≡ option_or (option_and_then (λ next. option_map suc (balanced next (drop (at + 1) bytes))) (level_after level (get_or bytes at 0))) (empty_front level)
+pub balanced-at : (bytes : List ℕ) (at level : ℕ) → at < length bytes → at_bar (drop at bytes) ≡ false → balanced level (drop at bytes) ≡ option_or (option_and_then (λ next. option_map suc (balanced next (drop (at + 1) bytes))) (level_after level (get_or bytes at 0))) (empty_front level)
 unfolding balanced
 balanced-at bytes at level lt clear =
     let e = drop_more bytes at 0 lt in

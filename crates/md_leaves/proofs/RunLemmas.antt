@@ -29,6 +29,15 @@ prefix_len-holds p (x ∷ bs) k lt = go (p x) refl k lt (λ j. prefix_len-holds 
     go true e (suc k) lt rest = rest k (omega arith)
     go false e k lt rest = absurd (omega arith)
 
+-- and the byte behind them does not
+pub prefix_len-stops : (p : ℕ → Bool) (bs : List ℕ) → p 0 ≡ false → p (get_or bs (prefix_len p bs) 0) ≡ false
+prefix_len-stops p [] nul = nul
+prefix_len-stops p (x ∷ bs) nul = go (p x) refl (prefix_len-stops p bs nul)
+  where
+    go : (v : Bool) → p x ≡ v → p (get_or bs (prefix_len p bs) 0) ≡ false → p (get_or (x ∷ bs) (cond v (1 + prefix_len p bs) 0) 0) ≡ false
+    go true e rest = ap (λ k. p (get_or (x ∷ bs) k 0)) (let h : 1 + prefix_len p bs ≡ suc (prefix_len p bs) = omega arith in h) ∙ rest
+    go false e rest = e
+
 pub prefix_len-within : (p : ℕ → Bool) (bs : List ℕ) → prefix_len p bs ≤ length bs
 prefix_len-within p [] = omega arith
 prefix_len-within p (x ∷ bs) = go (p x) (prefix_len-within p bs)

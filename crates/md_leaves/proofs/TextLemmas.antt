@@ -8,9 +8,10 @@ use Rattle.std.proofs.lemmas.List.{drop_more, drop_all}
 use Rattle.term_text.specs.LineEnds.{ends_line}
 use Rattle.md_lines.specs.Blanks.{is_blank}
 use Rattle.md_leaves.specs.declared.cut.Cut.{Cut}
+use Rattle.md_leaves.specs.declared.leaf.Mark.{Mark}
 use Rattle.md_leaves.specs.Code.{is_tick, code_or_text, run_end}
-use Rattle.md_leaves.specs.Runs.{mark_of}
-use Rattle.md_leaves.specs.Leaves.{break_of, escape, line_end, opener, marked, text_length, text_step}
+use Rattle.md_leaves.specs.Runs.{mark_of, run, run_of}
+use Rattle.md_leaves.specs.Leaves.{break_of, escape, is_letter, line_end, opener, marked, text_length, text_step}
 
 same : (b k : ℕ) → (b == k) ≡ true → b ≡ k
 same b k e = grind (arith, nat_tests)
@@ -138,28 +139,71 @@ text_length-blanks source (b ∷ bs) at plain = go (is_blank b) refl plain (text
         text_length-marked source bs at b false none ∙ (ap suc (rest next) ∙ (ap (λ x. suc (n + x)) after ∙ omega arith))
     go false is here rest = ap (λ k. text_length source k (b ∷ bs)) (sym (add-zero at)) ∙ sym (zero-add (text_length source (at + 0) (b ∷ bs)))
 
-step-blank : (source bs : List ℕ) (at b : ℕ) (v : Bool) → is_blank b ≡ true → is_some (line_end (b ∷ bs)) ≡ v → IsStep source at (b ∷ bs) (cond v 0 (prefix_len is_blank (b ∷ bs)))
-step-blank source bs at b true is e = step-fits source bs at b true (ap is_some (marked-blank source bs at b is) ∙ e)
+step-blank : (source bs : List ℕ) (at b : ℕ) (v : Bool) → is_blank b ≡ true → ends_line (slice_index (b ∷ bs) (prefix_len is_blank (b ∷ bs))) ≡ v → IsStep source at (b ∷ bs) (cond v 0 (prefix_len is_blank (b ∷ bs)))
+step-blank source bs at b true is e = step-fits source bs at b true (ap is_some (marked-blank source bs at b is) ∙ (line_end-some (b ∷ bs) ∙ e))
 step-blank source bs at b false is e = record {
-  goes = text_length-blanks source (b ∷ bs) at (sym (line_end-some (b ∷ bs)) ∙ e);
+  goes = text_length-blanks source (b ∷ bs) at e;
   stops = λ z. absurd (let none : 1 + prefix_len is_blank bs ≡ 0 = ap (λ v. cond v (1 + prefix_len is_blank bs) 0) (sym is) ∙ z in omega arith);
 }
 
+-- letters are text
+text_length-letters : (source bs : List ℕ) (at : ℕ) → text_length source at bs ≡ prefix_len is_letter bs + text_length source (at + prefix_len is_letter bs) (drop (prefix_len is_letter bs) bs)
+unfolding text_length
+text_length-letters source [] at = refl
+text_length-letters source (b ∷ bs) at = go (is_letter b) refl (text_length-letters source bs (at + 1))
+  where
+    go : (v : Bool) → is_letter b ≡ v → text_length source (at + 1) bs ≡ prefix_len is_letter bs + text_length source (at + 1 + prefix_len is_letter bs) (drop (prefix_len is_letter bs) bs) → text_length source at (b ∷ bs) ≡ cond v (1 + prefix_len is_letter bs) 0 + text_length source (at + cond v (1 + prefix_len is_letter bs) 0) (drop (cond v (1 + prefix_len is_letter bs) 0) (b ∷ bs))
+    go true is rest =
+        let n : ℕ = prefix_len is_letter bs in
+        let one : 1 + n ≡ suc n = omega arith in
+        let blank : is_blank b ≡ false = grind (arith, nat_tests) in
+        let slash : (b == 92) ≡ false = grind (arith, nat_tests) in
+        let bang : (b == 33) ≡ false = grind (arith, nat_tests) in
+        let other : always b ≡ false = grind (arith, nat_tests) in
+        let place : at + 1 + n ≡ at + (1 + n) = omega arith in
+        let after : text_length source (at + 1 + n) (drop n bs) ≡ text_length source (at + (1 + n)) (drop (1 + n) (b ∷ bs)) = ap (λ k. text_length source k (drop n bs)) place ∙ ap (λ k. text_length source (at + (1 + n)) (drop k (b ∷ bs))) (sym one) in
+        text_length-marked source bs at b false (ap is_some (marked-plain source bs at b blank slash bang other)) ∙ (ap suc rest ∙ (ap (λ x. suc (n + x)) after ∙ omega arith))
+    go false is rest = ap (λ k. text_length source k (b ∷ bs)) (sym (add-zero at)) ∙ sym (zero-add (text_length source (at + 0) (b ∷ bs)))
+
+-- a byte that is text, and the letters behind it
+step-plain : (source bs : List ℕ) (at b : ℕ) → marked source at (b ∷ bs) ≡ None → IsStep source at (b ∷ bs) (1 + prefix_len is_letter bs)
+step-plain source bs at b none =
+    let n : ℕ = prefix_len is_letter bs in
+    let place : at + 1 + n ≡ at + (1 + n) = omega arith in
+    let one : suc n ≡ 1 + n = omega arith in
+    let after : text_length source (at + 1 + n) (drop n bs) ≡ text_length source (at + (1 + n)) (drop (1 + n) (b ∷ bs)) = ap (λ k. text_length source k (drop n bs)) place ∙ ap (λ k. text_length source (at + (1 + n)) (drop k (b ∷ bs))) one in
+    record {
+      goes = text_length-marked source bs at b false (ap is_some none) ∙ (ap suc (text_length-letters source bs (at + 1)) ∙ (ap (λ x. suc (n + x)) after ∙ omega arith));
+      stops = λ z. absurd (omega arith);
+    }
+
 text_step-is : (source bs : List ℕ) (at b : ℕ) → IsStep source at (b ∷ bs) (text_step (b ∷ bs))
-text_step-is source bs at b =
-    elim (is_blank b) as (λ v. is_blank b ≡ v → IsStep source at (b ∷ bs) (cond v (cond (is_some (line_end (b ∷ bs))) 0 (prefix_len is_blank (b ∷ bs))) (cond (b == 92) (cond (is_some (escape (b ∷ bs))) 0 1) (cond (b == 33) (cond (is_some (opener (b ∷ bs))) 0 1) (cond (always b) 0 1))))) [
-      | true ↦ λ blank. step-blank source bs at b (is_some (line_end (b ∷ bs))) blank refl
-      | false ↦ λ blank. elim (b == 92) as (λ v. (b == 92) ≡ v → IsStep source at (b ∷ bs) (cond v (cond (is_some (escape (b ∷ bs))) 0 1) (cond (b == 33) (cond (is_some (opener (b ∷ bs))) 0 1) (cond (always b) 0 1)))) [
-        | true ↦ λ e. subst (λ x. IsStep source at (x ∷ bs) (cond (is_some (escape (x ∷ bs))) 0 1)) (sym (same b 92 e)) (step-fits source bs at 92 (is_some (escape (92 ∷ bs))) (ap is_some (marked-escape source bs at)))
-        | false ↦ λ slash. elim (b == 33) as (λ v. (b == 33) ≡ v → IsStep source at (b ∷ bs) (cond v (cond (is_some (opener (b ∷ bs))) 0 1) (cond (always b) 0 1))) [
-          | true ↦ λ e. subst (λ x. IsStep source at (x ∷ bs) (cond (is_some (opener (x ∷ bs))) 0 1)) (sym (same b 33 e)) (step-fits source bs at 33 (is_some (opener (33 ∷ bs))) (ap is_some (marked-bang source bs at)))
-          | false ↦ λ bang. elim (always b) as (λ v. always b ≡ v → IsStep source at (b ∷ bs) (cond v 0 1)) [
-            | true ↦ λ e. step-fits source bs at b true (marked-always source bs at b e)
-            | false ↦ λ e. step-fits source bs at b false (ap is_some (marked-plain source bs at b blank slash bang e))
-          ] refl
-        ] refl
-      ] refl
-    ] refl
+text_step-is source bs at b = blanks (is_blank b) refl
+  where
+    blank_step : ℕ
+    blank_step = cond (ends_line (slice_index (b ∷ bs) (prefix_len is_blank (b ∷ bs)))) 0 (prefix_len is_blank (b ∷ bs))
+
+    escape_step : ℕ
+    escape_step = cond (is_some (escape (b ∷ bs))) 0 1
+
+    opener_step : ℕ
+    opener_step = cond (is_some (opener (b ∷ bs))) 0 1
+
+    others : (v : Bool) → always b ≡ v → is_blank b ≡ false → (b == 92) ≡ false → (b == 33) ≡ false → IsStep source at (b ∷ bs) (cond v 0 (1 + prefix_len is_letter bs))
+    others true e blank slash bang = step-fits source bs at b true (marked-always source bs at b e)
+    others false e blank slash bang = step-plain source bs at b (marked-plain source bs at b blank slash bang e)
+
+    bangs : (v : Bool) → (b == 33) ≡ v → is_blank b ≡ false → (b == 92) ≡ false → IsStep source at (b ∷ bs) (cond v opener_step (cond (always b) 0 (1 + prefix_len is_letter bs)))
+    bangs true e blank slash = subst (λ x. IsStep source at (x ∷ bs) (cond (is_some (opener (x ∷ bs))) 0 1)) (sym (same b 33 e)) (step-fits source bs at 33 (is_some (opener (33 ∷ bs))) (ap is_some (marked-bang source bs at)))
+    bangs false e blank slash = others (always b) refl blank slash e
+
+    slashes : (v : Bool) → (b == 92) ≡ v → is_blank b ≡ false → IsStep source at (b ∷ bs) (cond v escape_step (cond (b == 33) opener_step (cond (always b) 0 (1 + prefix_len is_letter bs))))
+    slashes true e blank = subst (λ x. IsStep source at (x ∷ bs) (cond (is_some (escape (x ∷ bs))) 0 1)) (sym (same b 92 e)) (step-fits source bs at 92 (is_some (escape (92 ∷ bs))) (ap is_some (marked-escape source bs at)))
+    slashes false e blank = bangs (b == 33) refl blank e
+
+    blanks : (v : Bool) → is_blank b ≡ v → IsStep source at (b ∷ bs) (cond v blank_step (cond (b == 92) escape_step (cond (b == 33) opener_step (cond (always b) 0 (1 + prefix_len is_letter bs)))))
+    blanks true e = step-blank source bs at b (ends_line (slice_index (b ∷ bs) (prefix_len is_blank (b ∷ bs)))) e refl
+    blanks false e = slashes (b == 92) refl e
 
 pub text_step-at : (source : List ℕ) (at n : ℕ) → at < length source → n ≡ text_step (drop at source) → IsStep source at (drop at source) n
 text_step-at source at n lt is =
@@ -170,3 +214,39 @@ text_step-at source at n lt is =
 pub text_length-end : (source : List ℕ) (at : ℕ) → length source ≤ at → text_length source at (drop at source) ≡ 0
 unfolding text_length
 text_length-end source at le = ap (text_length source at) (drop_all at source le)
+
+-- at most one of these two rules fits
+run-or-line_end : (source bs : List ℕ) (at b : ℕ) → option_or (line_end (b ∷ bs)) (run source at (b ∷ bs)) ≡ option_or (run source at (b ∷ bs)) (line_end (b ∷ bs))
+run-or-line_end source bs at b = go (mark_of b) refl
+  where
+    end : Option Cut
+    end = line_end (b ∷ bs)
+
+    marks : Option Cut
+    marks = run source at (b ∷ bs)
+
+    go : (found : Option Mark) → mark_of b ≡ found → option_or end marks ≡ option_or marks end
+    go None e =
+        let none : marks ≡ None = ap (run_of source at (b ∷ bs) (prefix_len (λ x. x == b) (b ∷ bs))) e in
+        ap (option_or end) none ∙ (or-none end ∙ sym (ap (λ o. option_or o end) none))
+    go (Some mark) e =
+        let blank : is_blank b ≡ false = grind (arith, nat_tests) in
+        let plain : ends_line b ≡ false = grind (arith, nat_tests) in
+        let none : end ≡ None = not_none end (line_end-some (b ∷ bs) ∙ (ap (λ v. ends_line (slice_index (b ∷ bs) (cond v (1 + prefix_len is_blank bs) 0))) blank ∙ plain)) in
+        ap (λ o. option_or o marks) none ∙ (sym (or-none marks) ∙ ap (option_or marks) (sym none))
+
+other_byte : (b k : ℕ) → (b ≡ k → ⊥) → (b == k) ≡ false
+other_byte b k other = grind (arith, nat_tests)
+
+-- where the first byte is none of these, a run or the end of a line may stand
+pub marked-rest : (source : List ℕ) (at b : ℕ) → at < length source → get_or source at 0 ≡ b → (b ≡ 92 → ⊥) → (b ≡ 96 → ⊥) → (b ≡ 33 → ⊥) → (b ≡ 91 → ⊥) → (b ≡ 93 → ⊥) → marked source at (drop at source) ≡ option_or (run source at (drop at source)) (line_end (drop at source))
+marked-rest source at b lt is h1 h2 h3 h4 h5 =
+    let bs : List ℕ = drop (at + 1) source in
+    let e : drop at source ≡ b ∷ bs = drop_more source at 0 lt ∙ ap (λ x. x ∷ bs) is in
+    let slash = other_byte b 92 h1 in
+    let tick = other_byte b 96 h2 in
+    let bang = other_byte b 33 h3 in
+    let opens = other_byte b 91 h4 in
+    let closes = other_byte b 93 h5 in
+    let one : marked source at (b ∷ bs) ≡ option_or (line_end (b ∷ bs)) (run source at (b ∷ bs)) = rw (slash, tick, bang, opens, closes) refl in
+    ap (marked source at) e ∙ (one ∙ (run-or-line_end source bs at b ∙ ap (λ x. option_or (run source at x) (line_end x)) (sym e)))

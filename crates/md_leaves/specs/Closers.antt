@@ -51,14 +51,18 @@ balanced level (b ∷ bs) =
 abbrev pub plain_length : List ℕ → ℕ
 plain_length bs = unwrap_or (balanced 0 bs) 0
 
--- A destination is `<`, characters other than `<` and `>`, and `>`. Where this does not stand, it is the longest front
--- without blanks and control characters whose parentheses are balanced, maybe empty.
-abbrev pub destination : List ℕ → Form
-destination bs =
+-- `<`, characters other than `<` and `>`, and `>`
+abbrev pub angled : List ℕ → Option Form
+angled bs =
     let n = prefix_len is_in_angles (drop 1 bs) in
     if slice_index bs 0 == 60 && slice_index bs (n + 1) == 62
-    then record { from = 1; to = n + 1; all = n + 2 }
-    else record { from = 0; to = plain_length bs; all = plain_length bs }
+    then Some (record { from = 1; to = n + 1; all = n + 2 })
+    else None
+
+-- A destination stands in angle brackets. Where these do not stand, it is the longest front without blanks and control
+-- characters whose parentheses are balanced, maybe empty.
+abbrev pub destination : List ℕ → Form
+destination bs = unwrap_or (angled bs) (record { from = 0; to = plain_length bs; all = plain_length bs })
 
 -- blanks and then `)`: how many bytes they are
 abbrev pub closing : List ℕ → Option ℕ

@@ -4,6 +4,7 @@ ghost use Rattle.std.specs.List.{prefix_len, slice_index};
 ghost use Rattle.term_text.specs.LineEnds.{ends_line};
 ghost use Rattle.md_leaves.specs.Bytes.{holds};
 ghost use Rattle.md_leaves.specs.Closers.{is_in_angles, is_in_title};
+ghost use Rattle.md_leaves.specs.Leaves.{is_letter};
 
 use md_lines::is_blank;
 
@@ -15,6 +16,8 @@ pub enum Class {
     Byte { of: u8 },
     InAngles,
     InTitle { quote: u8 },
+    /// A letter or another byte that is text wherever it stands.
+    Letter,
 }
 
 impl Class {
@@ -26,8 +29,15 @@ impl Class {
             Class::Byte { of } => b == of,
             Class::InAngles => is_in_angles(b),
             Class::InTitle { quote } => is_in_title(quote, b),
+            Class::Letter => is_letter(b),
         }
     }
+}
+
+fn is_letter(b: u8) -> bool
+    ensures { result ≡ is_letter b }
+{
+    b > b'`' && b != b'~'
 }
 
 fn is_in_angles(b: u8) -> bool

@@ -1,12 +1,14 @@
 // Closers: `]`, with a destination if one follows.
-ghost use Rattle.std.specs.Prelude.{◌≡◌, ◌+◌, ◌≤◌, ◌<◌, drop, length, IfSome, IsTrue};
+ghost use Rattle.std.specs.Prelude.{◌≡◌, ◌+◌, ◌≤◌, ◌<◌, drop, length, unwrap_or, IfOk, IfSome, IsTrue};
 ghost use Rattle.std.specs.List.{slice_index};
-ghost use Rattle.md_leaves.specs.Closers.{at_bar, begins_control, closer, closer_to, closer_with, closing, destination, ending, is_quote, level_after, plain_length, then_closing, title};
+ghost use Rattle.md_leaves.specs.Ahead.{IsStop, KnowsStops};
+ghost use Rattle.md_leaves.specs.Closers.{angled, closer, closer_to, closer_with, closing, destination, ending, is_quote, level_after, plain_length, then_closing, title};
 
 use crate::bytes::{Class, byte_at, rest_of, stretch};
 use crate::cut::Cut;
 use crate::leaf::{Kind, Target};
-use md_lines::is_blank;
+use crate::parens::{Parens, at_bar};
+use std::alloc::AllocError;
 
 /// A destination in front of bytes: its place, and how many bytes its form has in all.
 #[derive(Clone, Copy)]
@@ -14,22 +16,6 @@ pub struct Form {
     pub from: usize,
     pub to: usize,
     pub all: usize,
-}
-
-/// Whether a control character begins with these bytes.
-fn begins_control(b: u8, next: u8) -> bool
-    ensures { result ≡ begins_control b next }
-{
-    b < 32 || b == 127 || b == 194 && 128 <= next && next <= 159
-}
-
-/// Whether a blank or a control character stands at an offset, or nothing.
-fn at_bar(bytes: &[u8], at: usize) -> bool
-    requires { at < length bytes.now }
-    ensures { result ≡ at_bar (drop at bytes.now) }
-{
-    let first = byte_at(bytes, at);
-    is_blank(first) || begins_control(first, byte_at(bytes, at + 1))
 }
 
 /// How many parentheses are open after one more byte; nothing if it closes one that was not opened.
@@ -45,15 +31,17 @@ fn level_after(level: usize, b: u8) -> Option<usize>
     }
 }
 
-/// How long the longest front without blanks and control characters is whose parentheses are balanced.
-fn plain_length(bytes: &[u8]) -> usize
+/// How long the longest front without blanks and control characters is whose parentheses are balanced; none goes over
+/// `stop`.
+fn plain_length(bytes: &[u8], stop: usize) -> usize
+    requires { IsStop bytes.now stop }
     ensures value { result ≡ plain_length bytes.now }
     ensures within { result ≤ length bytes.now }
 {
     let mut level = 0;
     let mut end = 0;
     let mut at = 0;
-    while at < bytes.len() && !at_bar(bytes, at) {
+    while at < bytes.len() && at != stop && !at_bar(bytes, at) {
         match level_after(level, bytes[at]) {
             Some(next) => level = next,
             None => break,
@@ -66,28 +54,47 @@ fn plain_length(bytes: &[u8]) -> usize
     end
 }
 
-/// The destination in front: `<..>`, or else the longest front whose parentheses are balanced.
-fn destination(bytes: &[u8]) -> Form
-    ensures value { result ≡ destination bytes.now }
-    ensures order { (result.from ≤ result.to) × (result.to ≤ result.all) }
-    ensures within { result.all ≤ length bytes.now }
+/// A destination in angle brackets.
+fn angled(bytes: &[u8]) -> Option<Form>
+    ensures value { result ≡ angled bytes.now }
+    ensures order { IfSome result (λ form. (form.from ≤ form.to) × (form.to ≤ form.all)) }
+    ensures within { IfSome result (λ form. form.all ≤ length bytes.now) }
 {
-    if byte_at(bytes, 0) == b'<' {
-        let n = stretch(rest_of(bytes, 1), Class::InAngles);
-        if byte_at(bytes, n + 1) == b'>' {
-            return Form {
-                from: 1,
-                to: n + 1,
-                all: n + 2,
-            };
-        }
+    if byte_at(bytes, 0) != b'<' {
+        return None;
     }
-    let n = plain_length(bytes);
-    Form {
+    let n = stretch(rest_of(bytes, 1), Class::InAngles);
+    if byte_at(bytes, n + 1) == b'>' {
+        Some(Form {
+            from: 1,
+            to: n + 1,
+            all: n + 2,
+        })
+    } else {
+        None
+    }
+}
+
+/// The destination at a place: in angle brackets, or else as far as its parentheses are balanced.
+fn destination(source: &[u8], at: usize, parens: &mut Parens) -> Result<Form, AllocError>
+    requires within { at ≤ length source.now }
+    requires known { KnowsStops source.now parens.old }
+    ensures kept { KnowsStops source.now parens.new }
+    ensures value { IfOk result (λ form. form ≡ destination (drop at source.now)) }
+    ensures order { IfOk result (λ form. (form.from ≤ form.to) × (form.to ≤ form.all)) }
+    ensures within { IfOk result (λ form. at + form.all ≤ length source.now) }
+{
+    let bytes = rest_of(source, at);
+    if let Some(form) = angled(bytes) {
+        return Ok(form);
+    }
+    let stop = parens.next_stop(source, at)?;
+    let n = plain_length(bytes, stop - at);
+    Ok(Form {
         from: 0,
         to: n,
         all: n,
-    }
+    })
 }
 
 /// How many bytes blanks and then `)` are.
@@ -156,26 +163,24 @@ fn ending(bytes: &[u8]) -> Option<usize>
     }
 }
 
-/// The closer at a place with so many bytes between `]` and a destination.
-fn closer_with(source: &[u8], at: usize, before: usize) -> Cut
-    requires { at + 1 + before ≤ length source.now }
-    ensures value { result ≡ closer_with at before (drop (at + 1 + before) source.now) }
-    ensures within { at + result.more < length source.now }
+/// A closer with so many bytes between `]` and a destination, if its end was found.
+fn closer_to(at: usize, before: usize, form: Form, end: Option<usize>) -> Cut
+    requires order { (form.from ≤ form.to) × (form.to ≤ form.all) }
+    requires room { at + 1 + before + form.all + unwrap_or end 0 ≤ usize.MAX }
+    ensures { result ≡ closer_to at before form end }
 {
-    let start = at + 1 + before;
-    let bytes = rest_of(source, start);
-    let found = destination(bytes);
-    match ending(rest_of(bytes, found.all)) {
+    match end {
         Some(n) => {
+            let start = at + 1 + before;
             let target = Target {
-                from: start + found.from,
-                to: start + found.to,
+                from: start + form.from,
+                to: start + form.to,
             };
             Cut {
                 kind: Kind::Closer {
                     target: Some(target),
                 },
-                more: before + found.all + n,
+                more: before + form.all + n,
             }
         }
         None => Cut {
@@ -185,22 +190,43 @@ fn closer_with(source: &[u8], at: usize, before: usize) -> Cut
     }
 }
 
+/// The closer at a place with so many bytes between `]` and a destination.
+fn closer_with(
+    source: &[u8],
+    at: usize,
+    before: usize,
+    parens: &mut Parens,
+) -> Result<Cut, AllocError>
+    requires within { at + 1 + before ≤ length source.now }
+    requires known { KnowsStops source.now parens.old }
+    ensures kept { KnowsStops source.now parens.new }
+    ensures value { IfOk result (λ cut. cut ≡ closer_with at before (drop (at + 1 + before) source.now)) }
+    ensures within { IfOk result (λ cut. at + cut.more < length source.now) }
+{
+    let start = at + 1 + before;
+    let form = destination(source, start, parens)?;
+    let end = ending(rest_of(source, start + form.all));
+    Ok(closer_to(at, before, form, end))
+}
+
 /// The closer at a place: `]`, with what belongs to its destination if one follows.
-pub fn closer(source: &[u8], at: usize) -> Option<Cut>
-    requires { at ≤ length source.now }
-    ensures value { result ≡ closer at (drop at source.now) }
-    ensures within { IfSome result (λ cut. at + cut.more < length source.now) }
+pub fn closer(source: &[u8], at: usize, parens: &mut Parens) -> Result<Option<Cut>, AllocError>
+    requires within { at ≤ length source.now }
+    requires known { KnowsStops source.now parens.old }
+    ensures kept { KnowsStops source.now parens.new }
+    ensures value { IfOk result (λ cut. cut ≡ closer at (drop at source.now)) }
+    ensures within { IfOk result (λ found. IfSome found (λ cut. at + cut.more < length source.now)) }
 {
     let bytes = rest_of(source, at);
     if byte_at(bytes, 0) != b']' {
-        return None;
+        return Ok(None);
     }
     if byte_at(bytes, 1) != b'(' {
-        return Some(Cut {
+        return Ok(Some(Cut {
             kind: Kind::Closer { target: None },
             more: 0,
-        });
+        }));
     }
     let before = 1 + stretch(rest_of(bytes, 2), Class::Blank);
-    Some(closer_with(source, at, before))
+    Ok(Some(closer_with(source, at, before, parens)?))
 }

@@ -1,10 +1,14 @@
 // Code between backticks.
-ghost use Rattle.std.specs.Prelude.{◌≡◌, ◌<◌, ◌≤◌, length, IfSome};
-ghost use Rattle.md_leaves.specs.Code.{code, code_or_text, run_end};
+ghost use Rattle.std.specs.Prelude.{◌≡◌, ◌+◌, ◌<◌, ◌≤◌, drop, false, length, IfOk, IfSome};
+ghost use Rattle.std.specs.List.{slice_index};
+ghost use Rattle.md_leaves.specs.Ahead.{IsLastEnd, KnowsRuns};
+ghost use Rattle.md_leaves.specs.Code.{code, code_or_text, is_tick, run_end};
 
 use crate::bytes::{Class, rest_of, stretch};
 use crate::cut::Cut;
 use crate::leaf::Kind;
+use crate::ticks::TickRuns;
+use std::alloc::AllocError;
 
 /// How many bytes stand before the end of the first maximal run of so many backticks.
 #[tactic(auto, unfolding(crate::specs::Code::run_end))]
@@ -27,23 +31,52 @@ fn run_end(bytes: &[u8], n: usize) -> Option<usize>
     if before == n { Some(at) } else { None }
 }
 
-/// A run of backticks with what stands up to the end of the next run of as many, or alone.
-pub fn code(bytes: &[u8]) -> Option<Cut>
-    ensures value { result ≡ code bytes.now }
-    ensures within { IfSome result (λ cut. cut.more < length bytes.now) }
+/// How many bytes stand before the end of the next run of so many backticks, where no such run ends behind `last`.
+fn next_end(source: &[u8], at: usize, n: usize, last: usize) -> Option<usize>
+    requires within { at ≤ length source.now }
+    requires last { IsLastEnd source.now n last }
+    requires behind { is_tick (slice_index source.now at) ≡ false }
+    ensures value { result ≡ run_end n 0 (drop at source.now) }
+    ensures within { IfSome result (λ k. at + k ≤ length source.now) }
 {
-    let n = stretch(bytes, Class::Byte { of: b'`' });
-    if n == 0 {
-        return None;
+    if last > at {
+        run_end(rest_of(source, at), n)
+    } else {
+        None
     }
-    match run_end(rest_of(bytes, n), n) {
-        Some(k) => Some(Cut {
+}
+
+/// A run of so many backticks with what stands up to the end of the next one, or alone.
+fn code_or_text(n: usize, end: Option<usize>) -> Cut
+    requires some { 0 < n }
+    requires room { IfSome end (λ k. n + k ≤ usize.MAX) }
+    ensures { result ≡ code_or_text n end }
+{
+    match end {
+        Some(k) => Cut {
             kind: Kind::Code { ticks: n },
             more: n - 1 + k,
-        }),
-        None => Some(Cut {
+        },
+        None => Cut {
             kind: Kind::Text,
             more: n - 1,
-        }),
+        },
     }
+}
+
+/// The code at a place, or the backticks alone if no such run follows.
+pub fn code(source: &[u8], at: usize, runs: &mut TickRuns) -> Result<Option<Cut>, AllocError>
+    requires within { at ≤ length source.now }
+    requires known { KnowsRuns source.now runs.old }
+    ensures kept { KnowsRuns source.now runs.new }
+    ensures value { IfOk result (λ cut. cut ≡ code (drop at source.now)) }
+    ensures within { IfOk result (λ found. IfSome found (λ cut. at + cut.more < length source.now)) }
+{
+    let n = stretch(rest_of(source, at), Class::Byte { of: b'`' });
+    if n == 0 {
+        return Ok(None);
+    }
+    let last = runs.last_end(source, n)?;
+    let end = next_end(source, at + n, n, last);
+    Ok(Some(code_or_text(n, end)))
 }

@@ -1,14 +1,17 @@
 // The leaves of a source.
 ghost use Rattle.std.specs.Prelude.{◌≡◌, ◌≤◌, ◌<◌, ◌+◌, drop, length, IfOk, IfSome};
+ghost use Rattle.md_leaves.specs.Ahead.{Knows};
 ghost use Rattle.md_leaves.specs.Cuts.{AreLeaves};
 ghost use Rattle.md_leaves.specs.Leaves.{first_cut, leaves, marked, or_text, text_length, text_step};
 
-use crate::bytes::{Class, rest_of, stretch};
+use crate::bytes::{Class, byte_at, ends_line, rest_of, stretch};
 use crate::closer::closer;
 use crate::code::code;
 use crate::leaf::{Kind, Leaf};
+use crate::parens::Parens;
 use crate::rules::{escape, line_end, opener};
 use crate::runs::run;
+use crate::ticks::TickRuns;
 use std::alloc::{AllocError, Global};
 
 /// What a rule cuts at a place: the leaf's kind, and how many bytes it has after its first.
@@ -26,16 +29,17 @@ fn text_step(bytes: &[u8]) -> usize
 {
     match bytes[0] {
         b' ' | b'\t' => {
-            if line_end(bytes).is_some() {
+            let blanks = stretch(bytes, Class::Blank);
+            if ends_line(byte_at(bytes, blanks)) {
                 0
             } else {
-                stretch(bytes, Class::Blank)
+                blanks
             }
         }
         b'\\' => !escape(bytes).is_some() as usize,
         b'!' => !opener(bytes).is_some() as usize,
         b'\n' | b'\r' | b'`' | b'[' | b']' | b'*' | b'_' | b'~' | b'^' => 0,
-        _ => 1,
+        _ => 1 + stretch(rest_of(bytes, 1), Class::Letter),
     }
 }
 
@@ -56,19 +60,40 @@ fn text_length(source: &[u8], start: usize) -> usize
     at - start
 }
 
+/// What is found out ahead of the place that is cut.
+#[derive(Drop)]
+pub struct Ahead {
+    pub runs: TickRuns,
+    pub parens: Parens,
+}
+
 /// What the first rule that fits cuts at a place.
-fn marked(source: &str, at: usize) -> Option<Cut>
-    requires { at < length source.now }
-    ensures value { result ≡ marked source.now at (drop at source.now) }
-    ensures within { IfSome result (λ cut. at + cut.more < length source.now) }
+fn marked(source: &str, at: usize, ahead: &mut Ahead) -> Result<Option<Cut>, AllocError>
+    requires within { at < length source.now }
+    requires known { Knows source.now ahead.old }
+    ensures kept { Knows source.now ahead.new }
+    ensures value { IfOk result (λ cut. cut ≡ marked source.now at (drop at source.now)) }
+    ensures within { IfOk result (λ found. IfSome found (λ cut. at + cut.more < length source.now)) }
 {
-    let bytes = rest_of(source.as_bytes(), at);
-    escape(bytes)
-        .or(line_end(bytes))
-        .or(code(bytes))
-        .or(opener(bytes))
-        .or(closer(source.as_bytes(), at))
-        .or(run(source, at))
+    let bytes = source.as_bytes();
+    let rest = rest_of(bytes, at);
+    let first = bytes[at];
+    if first == b'\\' {
+        return Ok(escape(rest));
+    }
+    if first == b'`' {
+        return Ok(code(bytes, at, &mut ahead.runs)?);
+    }
+    if first == b'!' {
+        return Ok(opener(rest));
+    }
+    if first == b'[' {
+        return Ok(opener(rest));
+    }
+    if first == b']' {
+        return Ok(closer(bytes, at, &mut ahead.parens)?);
+    }
+    Ok(run(source, at).or(line_end(rest)))
 }
 
 /// The cut of the rule that fits, or else text.
@@ -85,18 +110,20 @@ fn or_text(cut: Option<Cut>, more: usize) -> Cut
 }
 
 /// What is cut at a place.
-fn cut_at(source: &str, at: usize) -> Cut
-    requires { at < length source.now }
-    ensures value { result ≡ first_cut source.now at (drop at source.now) }
-    ensures within { at + result.more < length source.now }
+fn cut_at(source: &str, at: usize, ahead: &mut Ahead) -> Result<Cut, AllocError>
+    requires within { at < length source.now }
+    requires known { Knows source.now ahead.old }
+    ensures kept { Knows source.now ahead.new }
+    ensures value { IfOk result (λ cut. cut ≡ first_cut source.now at (drop at source.now)) }
+    ensures within { IfOk result (λ cut. at + cut.more < length source.now) }
 {
     let text = text_length(source.as_bytes(), at);
     if text > 0 {
         // No rule fits here: none is tried at a letter.
-        or_text(None, text - 1)
-    } else {
-        or_text(marked(source, at), 0)
+        return Ok(or_text(None, text - 1));
     }
+    let cut = marked(source, at, ahead)?;
+    Ok(or_text(cut, 0))
 }
 
 /// The leaves of a source, which is the bodies of the lines of a paragraph or the like with a line end between each two,
@@ -108,9 +135,13 @@ pub fn cut_leaves(alloc: Global, source: &str) -> Result<Vec<Leaf>, AllocError>
     ensures cuts { IfOk result (λ v. AreLeaves source.now v.items) }
 {
     let mut leaves = Vec::new(alloc);
+    let mut ahead = Ahead {
+        runs: TickRuns::new(alloc),
+        parens: Parens::new(alloc),
+    };
     let mut at = 0;
     while at < source.len() {
-        let cut = cut_at(source, at);
+        let cut = cut_at(source, at, &mut ahead)?;
         let to = at + 1 + cut.more;
         leaves.push(Leaf {
             kind: cut.kind,

@@ -6,8 +6,10 @@ mod closer;
 mod code;
 mod cut;
 mod leaf;
+mod parens;
 mod rules;
 mod runs;
+mod ticks;
 
 pub use cut::cut_leaves;
 pub use leaf::{Kind, Leaf, Mark, Target};

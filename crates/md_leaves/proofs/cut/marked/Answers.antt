@@ -1,0 +1,15 @@
+use Rattle.std.proofs.Common.{◌≡◌, ◌∙◌, ℕ, List, ap, sym, get_or, drop}
+use Rattle.std.specs.Option.{option_or}
+use Rattle.md_leaves.specs.Leaves.{line_end}
+use Rattle.md_leaves.proofs.TextLemmas.{marked-rest}
+use Rattle.md_leaves.proofs.cut.marked.Goals as goal
+
+pub returns-clause-value : goal.returns-clause-value
+returns-clause-value c =
+    let source : List ℕ = c.args.source.now in
+    let at : ℕ = c.args.at in
+    let first : get_or source at 0 ≡ get_or c.as_bytes-bytes.result.now at 0 = ap (λ x. get_or x at 0) (sym c.as_bytes-bytes.ensures.value) in
+    c.or.ensures
+    ∙ (ap (λ o. option_or o c.line_end.result) c.run.ensures.value
+    ∙ (ap (option_or _) (c.line_end.ensures.value ∙ ap line_end (c.rest_of-rest.ensures ∙ ap (drop at) c.as_bytes-bytes.ensures.value))
+    ∙ sym (marked-rest source at _ c.requires.within first c.if-first-eq92.false c.if-first-eq96.false c.if-first-eq33.false c.if-first-eq91.false c.if-first-eq93.false)))
