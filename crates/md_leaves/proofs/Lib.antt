@@ -1,0 +1,9 @@
+pub mod PlainLemmas
+pub mod CloserLemmas
+pub mod RunLemmas
+pub mod TextLemmas
+pub mod LeafLemmas
+pub mod PlaceLemmas
+pub mod GoodCuts
+pub mod GoodClosers
+pub mod GoodLeaves

@@ -1,5 +1,5 @@
 -- Places that a source may be cut at: what a leaf tells of the text at its place.
-use Rattle.std.specs.Prelude.{◌≡◌, ℕ, ◌+◌, ◌-◌, ◌≤◌, Bool, true, Option, None, Some, List, [], ◌∷◌}
+use Rattle.std.specs.Prelude.{◌≡◌, ℕ, ◌+◌, ◌-◌, ◌≤◌, true, Option, None, Some, List, [], ◌∷◌}
 use Rattle.std.specs.List.{slice_range}
 use Rattle.std.specs.Str.{IsCharBoundary}
 use Rattle.term_text.specs.LineEnds.{is_one_line}

@@ -1,0 +1,172 @@
+-- Text: where no rule fits.
+use Rattle.std.proofs.Common.{List, [], ◌∷◌, length, drop, get_or, ◌≡◌, ◌≤◌, ◌<◌, ◌+◌, ◌==◌, ℕ, suc, refl, sym, ap, subst, ◌∙◌, arith, Bool, true, false, ◌||◌, cond, Option, Some, None, is_some, add-zero, zero-add}
+use Rattle.std.specs.Option.{option_or}
+use Rattle.std.specs.List.{prefix_len, slice_index}
+use Rattle.std.proofs.lemmas.Bool.{false≢true}
+use Rattle.std.proofs.lemmas.Bool.Decides.{nat_tests}
+use Rattle.std.proofs.lemmas.List.{drop_more, drop_all}
+use Rattle.term_text.specs.LineEnds.{ends_line}
+use Rattle.md_lines.specs.Blanks.{is_blank}
+use Rattle.md_leaves.specs.declared.cut.Cut.{Cut}
+use Rattle.md_leaves.specs.Code.{is_tick, code_or_text, run_end}
+use Rattle.md_leaves.specs.Runs.{mark_of}
+use Rattle.md_leaves.specs.Leaves.{break_of, escape, line_end, opener, marked, text_length, text_step}
+
+same : (b k : ℕ) → (b == k) ≡ true → b ≡ k
+same b k e = grind (arith, nat_tests)
+
+-- a byte is this one, or it is another
+by_test : (P : ℕ → Type 0) (b k : ℕ) (v : Bool) → (b == k) ≡ v → P k → ((b == k) ≡ false → P b) → P b
+by_test P b k true e here other = subst P (sym (same b k e)) here
+by_test P b k false e here other = other e
+
+or-none : {A : Type 0} (o : Option A) → option_or o None ≡ o
+or-none None = refl
+or-none (Some x) = refl
+
+or-false : (v w : Bool) → (v || w) ≡ false → (v ≡ false) × (w ≡ false)
+or-false true w e = absurd (false≢true (sym e))
+or-false false w e = (refl, e)
+
+not_none : {A : Type 0} (o : Option A) → is_some o ≡ false → o ≡ None
+not_none None e = refl
+not_none (Some x) e = absurd (false≢true (sym e))
+
+-- of each of these bytes but few it takes the next ones to know whether a rule fits
+abbrev pub always : ℕ → Bool
+always b = (ends_line b || is_tick b) || ((b == 91 || b == 93) || is_some (mark_of b))
+
+is_blank-cases : (P : ℕ → Type 0) (b : ℕ) → is_blank b ≡ true → P 32 → P 9 → P b
+is_blank-cases P b is space tab =
+    by_test P b 32 (b == 32) refl space
+    (λ other. by_test P b 9 (b == 9) refl tab
+    (λ more. absurd (false≢true (let none : is_blank b ≡ false = rw (other, more) refl in sym none ∙ is))))
+
+always-cases : (P : ℕ → Type 0) (b : ℕ) → always b ≡ true → P 10 → P 13 → P 96 → P 91 → P 93 → P 42 → P 95 → P 126 → P 94 → P b
+always-cases P b is lf cr tick opens closes star under tilde caret =
+    by_test P b 10 (b == 10) refl lf
+    (λ h1. by_test P b 13 (b == 13) refl cr
+    (λ h2. by_test P b 96 (b == 96) refl tick
+    (λ h3. by_test P b 91 (b == 91) refl opens
+    (λ h4. by_test P b 93 (b == 93) refl closes
+    (λ h5. by_test P b 42 (b == 42) refl star
+    (λ h6. by_test P b 95 (b == 95) refl under
+    (λ h7. by_test P b 126 (b == 126) refl tilde
+    (λ h8. by_test P b 94 (b == 94) refl caret
+    (λ h9. absurd (false≢true (let none : always b ≡ false = rw (h1, h2, h3, h4, h5, h6, h7, h8, h9) refl in sym none ∙ is)))))))))))
+
+marked-blank : (source bs : List ℕ) (at b : ℕ) → is_blank b ≡ true → marked source at (b ∷ bs) ≡ line_end (b ∷ bs)
+marked-blank source bs at b is =
+    is_blank-cases (λ x. marked source at (x ∷ bs) ≡ line_end (x ∷ bs)) b is (or-none (line_end (32 ∷ bs))) (or-none (line_end (9 ∷ bs)))
+
+marked-escape : (source bs : List ℕ) (at : ℕ) → marked source at (92 ∷ bs) ≡ escape (92 ∷ bs)
+marked-escape source bs at = or-none (escape (92 ∷ bs))
+
+marked-bang : (source bs : List ℕ) (at : ℕ) → marked source at (33 ∷ bs) ≡ opener (33 ∷ bs)
+marked-bang source bs at = or-none (opener (33 ∷ bs))
+
+positive : (n : ℕ) → (1 + n == 0) ≡ false
+positive n = grind (arith, nat_tests)
+
+marked-tick : (source bs : List ℕ) (at : ℕ) → is_some (marked source at (96 ∷ bs)) ≡ true
+marked-tick source bs at =
+    let n : ℕ = 1 + prefix_len is_tick bs in
+    ap (λ v. is_some (option_or (cond v None (Some (code_or_text n (run_end n 0 (drop n (96 ∷ bs)))))) None)) (positive (prefix_len is_tick bs))
+
+some-either : {A : Type 0} (v : Bool) (x y : A) → is_some (option_or (cond v (Some x) (Some y)) None) ≡ true
+some-either true x y = refl
+some-either false x y = refl
+
+marked-closer : (source bs : List ℕ) (at : ℕ) → is_some (marked source at (93 ∷ bs)) ≡ true
+marked-closer source bs at = some-either (get_or bs 0 0 == 40) _ _
+
+-- a rule fits at each of these bytes
+pub marked-always : (source bs : List ℕ) (at b : ℕ) → always b ≡ true → is_some (marked source at (b ∷ bs)) ≡ true
+marked-always source bs at b is =
+    always-cases (λ x. is_some (marked source at (x ∷ bs)) ≡ true) b is refl refl (marked-tick source bs at) refl (marked-closer source bs at) refl refl refl refl
+
+-- and at no other byte but a blank, a backslash and `!`
+pub marked-plain : (source bs : List ℕ) (at b : ℕ) → is_blank b ≡ false → (b == 92) ≡ false → (b == 33) ≡ false → always b ≡ false → marked source at (b ∷ bs) ≡ None
+marked-plain source bs at b blank slash bang other =
+    let split = or-false (ends_line b || is_tick b) ((b == 91 || b == 93) || is_some (mark_of b)) other in
+    let left = or-false (ends_line b) (is_tick b) split.0 in
+    let right = or-false (b == 91 || b == 93) (is_some (mark_of b)) split.1 in
+    let brackets = or-false (b == 91) (b == 93) right.0 in
+    let mark = not_none (mark_of b) right.1 in
+    let e1 = left.0 in let e2 = left.1 in let e3 = brackets.0 in let e4 = brackets.1 in
+    rw (slash, blank, e1, e2, bang, e3, e4, mark)
+
+-- how far a step over text goes, and that none is made where a rule fits
+pub record IsStep (source : List ℕ) (at : ℕ) (bs : List ℕ) (n : ℕ) : Type 0 where
+  pub goes : text_length source at bs ≡ n + text_length source (at + n) (drop n bs)
+  pub stops : n ≡ 0 → text_length source at bs ≡ 0
+
+pub text_length-marked : (source bs : List ℕ) (at b : ℕ) (v : Bool) → is_some (marked source at (b ∷ bs)) ≡ v → text_length source at (b ∷ bs) ≡ cond v 0 (suc (text_length source (at + 1) bs))
+unfolding text_length
+text_length-marked source bs at b v e = ap (λ w. cond w 0 (suc (text_length source (at + 1) bs))) e
+
+step-fits : (source bs : List ℕ) (at b : ℕ) (v : Bool) → is_some (marked source at (b ∷ bs)) ≡ v → IsStep source at (b ∷ bs) (cond v 0 1)
+step-fits source bs at b true e =
+    let none : text_length source at (b ∷ bs) ≡ 0 = text_length-marked source bs at b true e in
+    record { goes = ap (λ k. text_length source k (b ∷ bs)) (sym (add-zero at)) ∙ sym (zero-add (text_length source (at + 0) (b ∷ bs))); stops = λ z. none }
+step-fits source bs at b false e = record {
+  goes = text_length-marked source bs at b false e ∙ omega arith;
+  stops = λ z. absurd (omega arith);
+}
+
+-- whether a line end follows blanks
+line_end-some : (bs : List ℕ) → is_some (line_end bs) ≡ ends_line (slice_index bs (prefix_len is_blank bs))
+line_end-some bs = go (ends_line (slice_index bs (prefix_len is_blank bs))) (let cut : Cut = record { kind = break_of (prefix_len is_blank bs); more = prefix_len is_blank bs } in cut)
+  where
+    go : (v : Bool) (cut : Cut) → is_some (cond v (Some cut) None) ≡ v
+    go true cut = refl
+    go false cut = refl
+
+text_length-blanks : (source bs : List ℕ) (at : ℕ) → ends_line (slice_index bs (prefix_len is_blank bs)) ≡ false → text_length source at bs ≡ prefix_len is_blank bs + text_length source (at + prefix_len is_blank bs) (drop (prefix_len is_blank bs) bs)
+unfolding text_length
+text_length-blanks source [] at plain = refl
+text_length-blanks source (b ∷ bs) at plain = go (is_blank b) refl plain (text_length-blanks source bs (at + 1))
+  where
+    go : (v : Bool) → is_blank b ≡ v → ends_line (slice_index (b ∷ bs) (cond v (1 + prefix_len is_blank bs) 0)) ≡ false → (ends_line (slice_index bs (prefix_len is_blank bs)) ≡ false → text_length source (at + 1) bs ≡ prefix_len is_blank bs + text_length source (at + 1 + prefix_len is_blank bs) (drop (prefix_len is_blank bs) bs)) → text_length source at (b ∷ bs) ≡ cond v (1 + prefix_len is_blank bs) 0 + text_length source (at + cond v (1 + prefix_len is_blank bs) 0) (drop (cond v (1 + prefix_len is_blank bs) 0) (b ∷ bs))
+    go true is here rest =
+        let n : ℕ = prefix_len is_blank bs in
+        let one : 1 + n ≡ suc n = omega arith in
+        let next : ends_line (slice_index bs n) ≡ false = ap (λ k. ends_line (get_or (b ∷ bs) k 0)) (sym one) ∙ here in
+        let none : is_some (marked source at (b ∷ bs)) ≡ false = ap is_some (marked-blank source bs at b is) ∙ (line_end-some (b ∷ bs) ∙ plain) in
+        let place : at + 1 + n ≡ at + (1 + n) = omega arith in
+        let after : text_length source (at + 1 + n) (drop n bs) ≡ text_length source (at + (1 + n)) (drop (1 + n) (b ∷ bs)) = ap (λ k. text_length source k (drop n bs)) place ∙ ap (λ k. text_length source (at + (1 + n)) (drop k (b ∷ bs))) (sym one) in
+        text_length-marked source bs at b false none ∙ (ap suc (rest next) ∙ (ap (λ x. suc (n + x)) after ∙ omega arith))
+    go false is here rest = ap (λ k. text_length source k (b ∷ bs)) (sym (add-zero at)) ∙ sym (zero-add (text_length source (at + 0) (b ∷ bs)))
+
+step-blank : (source bs : List ℕ) (at b : ℕ) (v : Bool) → is_blank b ≡ true → is_some (line_end (b ∷ bs)) ≡ v → IsStep source at (b ∷ bs) (cond v 0 (prefix_len is_blank (b ∷ bs)))
+step-blank source bs at b true is e = step-fits source bs at b true (ap is_some (marked-blank source bs at b is) ∙ e)
+step-blank source bs at b false is e = record {
+  goes = text_length-blanks source (b ∷ bs) at (sym (line_end-some (b ∷ bs)) ∙ e);
+  stops = λ z. absurd (let none : 1 + prefix_len is_blank bs ≡ 0 = ap (λ v. cond v (1 + prefix_len is_blank bs) 0) (sym is) ∙ z in omega arith);
+}
+
+text_step-is : (source bs : List ℕ) (at b : ℕ) → IsStep source at (b ∷ bs) (text_step (b ∷ bs))
+text_step-is source bs at b =
+    elim (is_blank b) as (λ v. is_blank b ≡ v → IsStep source at (b ∷ bs) (cond v (cond (is_some (line_end (b ∷ bs))) 0 (prefix_len is_blank (b ∷ bs))) (cond (b == 92) (cond (is_some (escape (b ∷ bs))) 0 1) (cond (b == 33) (cond (is_some (opener (b ∷ bs))) 0 1) (cond (always b) 0 1))))) [
+      | true ↦ λ blank. step-blank source bs at b (is_some (line_end (b ∷ bs))) blank refl
+      | false ↦ λ blank. elim (b == 92) as (λ v. (b == 92) ≡ v → IsStep source at (b ∷ bs) (cond v (cond (is_some (escape (b ∷ bs))) 0 1) (cond (b == 33) (cond (is_some (opener (b ∷ bs))) 0 1) (cond (always b) 0 1)))) [
+        | true ↦ λ e. subst (λ x. IsStep source at (x ∷ bs) (cond (is_some (escape (x ∷ bs))) 0 1)) (sym (same b 92 e)) (step-fits source bs at 92 (is_some (escape (92 ∷ bs))) (ap is_some (marked-escape source bs at)))
+        | false ↦ λ slash. elim (b == 33) as (λ v. (b == 33) ≡ v → IsStep source at (b ∷ bs) (cond v (cond (is_some (opener (b ∷ bs))) 0 1) (cond (always b) 0 1))) [
+          | true ↦ λ e. subst (λ x. IsStep source at (x ∷ bs) (cond (is_some (opener (x ∷ bs))) 0 1)) (sym (same b 33 e)) (step-fits source bs at 33 (is_some (opener (33 ∷ bs))) (ap is_some (marked-bang source bs at)))
+          | false ↦ λ bang. elim (always b) as (λ v. always b ≡ v → IsStep source at (b ∷ bs) (cond v 0 1)) [
+            | true ↦ λ e. step-fits source bs at b true (marked-always source bs at b e)
+            | false ↦ λ e. step-fits source bs at b false (ap is_some (marked-plain source bs at b blank slash bang e))
+          ] refl
+        ] refl
+      ] refl
+    ] refl
+
+pub text_step-at : (source : List ℕ) (at n : ℕ) → at < length source → n ≡ text_step (drop at source) → IsStep source at (drop at source) n
+text_step-at source at n lt is =
+    let e = drop_more source at 0 lt in
+    subst (IsStep source at (drop at source)) (sym is)
+    (subst (λ x. IsStep source at x (text_step x)) (sym e) (text_step-is source (drop (at + 1) source) at (get_or source at 0)))
+
+pub text_length-end : (source : List ℕ) (at : ℕ) → length source ≤ at → text_length source at (drop at source) ≡ 0
+unfolding text_length
+text_length-end source at le = ap (text_length source at) (drop_all at source le)
