@@ -17,6 +17,6 @@ pub fn read<'a>(alloc: Global, text: &'a str) -> Result<Vec<Event<'a>>, AllocErr
 {
     let lines = lines_of(alloc, text)?;
     let mut out = Vec::new(alloc);
-    write_blocks(lines.as_slice(), &mut out)?;
+    write_blocks(alloc, lines.as_slice(), &mut out)?;
     Ok(out)
 }

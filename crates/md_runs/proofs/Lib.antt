@@ -9,3 +9,5 @@ pub mod PartFacts
 pub mod GoneLemmas
 pub mod Turns
 pub mod Joined
+pub mod Fits
+pub mod Laws

@@ -56,19 +56,20 @@ pub record Paired (source : List ℕ) (levels : ℕ) (ps : List Part) (q : Pair)
   pub some : 1 ≤ cost q.size
   pub found : search q.mark q.size ps ≡ Some q.more
   pub from : ℕ
+  pub style : has_style q.mark q.size ≡ true
   pub taken : is_taken source q.mark q.size from (drop q.more ps) ≡ true
 
 chosen : (b : Bool) (x : Option Pair) (q : Pair) → cond b x None ≡ Some q → (b ≡ true) × (x ≡ Some q)
 chosen true x q e = (refl, e)
 chosen false x q e = cc
 
-paired-with : (source : List ℕ) (levels : ℕ) (m : run.Mark) (n from : ℕ) (o : Option ℕ) (ps : List Part) (q : Pair) → cost n ≤ levels → search m n ps ≡ o → pair_with source m n from o ps ≡ Some q → Paired source levels ps q
-paired-with source levels m n from None ps q le f e = cc
-paired-with source levels m n from (Some k) ps q le f e = go (is_taken source m n from (drop k ps)) refl e
+paired-with : (source : List ℕ) (levels : ℕ) (m : run.Mark) (n from : ℕ) (o : Option ℕ) (ps : List Part) (q : Pair) → cost n ≤ levels → has_style m n ≡ true → search m n ps ≡ o → pair_with source m n from o ps ≡ Some q → Paired source levels ps q
+paired-with source levels m n from None ps q le s f e = cc
+paired-with source levels m n from (Some k) ps q le s f e = go (is_taken source m n from (drop k ps)) refl e
   where
     go : (v : Bool) → is_taken source m n from (drop k ps) ≡ v → cond v (Some (record { mark = m; size = n; more = k })) None ≡ Some q → Paired source levels ps q
     go true t e =
-        let here : Paired source levels ps (record { mark = m; size = n; more = k }) = record { enough = le; some = cost-positive n; found = f; from = from; taken = t } in
+        let here : Paired source levels ps (record { mark = m; size = n; more = k }) = record { enough = le; some = cost-positive n; found = f; from = from; style = s; taken = t } in
         let r : Pair = record { mark = m; size = n; more = k } in
         let same : r ≡ q = cc in
         subst (Paired source levels ps) same here
@@ -85,7 +86,7 @@ paired-of source levels (kind.Closer target) n to ps q e = cc
 paired-of source levels (kind.Run m opens closes) n to ps q e =
     let c = chosen ((opens && has_style m n) && nat_le (cost n) levels) (pair_with source m n to (search m n ps) ps) q e in
     let b = both-true (opens && has_style m n) (nat_le (cost n) levels) c.0 in
-    paired-with source levels m n to (search m n ps) ps q (le (cost n) levels b.1) refl c.1
+    paired-with source levels m n to (search m n ps) ps q (le (cost n) levels b.1) (both-true opens (has_style m n) b.0).1 refl c.1
   where
     le : (m n : ℕ) → nat_le m n ≡ true → m ≤ n
     le m n e = grind (arith, nat_tests)

@@ -1,5 +1,5 @@
 -- How deep inlines stand in one another.
-use Rattle.std.specs.Prelude.{ℕ, ◌-◌, nat_lt, Bool, true, false, ◌&&◌, ◌||◌, if◌then◌else◌}
+use Rattle.std.specs.Prelude.{ℕ, ◌-◌, nat_lt, Bool, true, false, ◌&&◌, ◌||◌, not, if◌then◌else◌}
 use Rattle.md_tree.specs.declared.event.Tag.{Tag}
 use Rattle.md_tree.specs.declared.event.Tag.TheVariants as tag
 use Rattle.md_tree.specs.Tree.{Nodes, Empty, Leaf, Branch}
@@ -9,12 +9,12 @@ is_group (tag.Link dest) = true
 is_group (tag.Image dest) = true
 is_group _ = false
 
--- links and images stand less than so many deep in one another
+-- links and images stand at most so many deep in one another
 abbrev pub groups_within : ℕ → Nodes → Bool
 groups_within depth Empty = true
 groups_within depth (Leaf e rest) = groups_within depth rest
 groups_within depth (Branch t inside rest) =
-    (if is_group t then nat_lt 0 depth && groups_within (depth - 1) inside else groups_within depth inside)
+    ((not (is_group t) || nat_lt 0 depth) && groups_within (if is_group t then depth - 1 else depth) inside)
     && groups_within depth rest
 
 -- a styled inline stands in fewer than so many links, images and styled inlines; strong holding emphasis is two of these
