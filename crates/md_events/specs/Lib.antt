@@ -4,8 +4,10 @@ pub use Rattle.md_tree.specs.Good
 pub use Rattle.md_tree.specs.Parse
 pub use Rattle.md_lines.specs.Blanks
 pub use Rattle.md_lines.specs.Lines
-pub use Rattle.md_inline.specs.Source
-pub use Rattle.md_inline.specs.Leaves
+pub use Rattle.md_leaves.specs.Leaves
+pub use Rattle.md_runs.specs.Source
+pub use Rattle.md_runs.specs.Nest
+pub use Rattle.md_runs.specs.Texts
 pub use Rattle.md_inline.specs.Inlines
 pub use Rattle.md_rules.specs.Texts
 pub use Rattle.md_rules.specs.Shallow

@@ -1,3 +1,2 @@
-pub mod LeafLemmas
-pub mod LineNodes
+pub mod Joins
 pub mod GoodInlines

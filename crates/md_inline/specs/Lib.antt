@@ -1,4 +1,1 @@
-pub mod Source
-pub mod Leaves
 pub mod Inlines
-pub mod ByLine

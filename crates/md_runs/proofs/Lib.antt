@@ -1,0 +1,13 @@
+pub mod Lists
+pub mod Balance
+pub mod PartSteps
+pub mod CodeLemmas
+pub mod SourceLemmas
+pub mod TextLemmas
+pub mod PairSteps
+pub mod PartFacts
+pub mod GoneLemmas
+pub mod Turns
+pub mod Joined
+pub mod Fits
+pub mod Laws

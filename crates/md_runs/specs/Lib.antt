@@ -1,0 +1,11 @@
+pub mod Seen
+pub mod Source
+pub mod Code
+pub mod Brackets
+pub mod Pairs
+pub mod Nest
+pub mod Texts
+pub mod Marks
+pub mod Partners
+pub mod Facts
+pub mod Levels
