@@ -9,7 +9,7 @@ pub use Rattle.md_runs.specs.Source
 pub use Rattle.md_runs.specs.Nest
 pub use Rattle.md_runs.specs.Texts
 pub use Rattle.md_inline.specs.Inlines
-pub use Rattle.md_rules.specs.Texts
+pub use Rattle.md_rules.specs.Texts as LineTexts
 pub use Rattle.md_rules.specs.Shallow
 pub use Rattle.md_rules.specs.Attributes
 pub use Rattle.md_rules.specs.Headings
