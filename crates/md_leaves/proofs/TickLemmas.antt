@@ -21,16 +21,16 @@ zero-none : (n : ℕ) → 0 < n → (0 == n) ≡ false
 zero-none n some = grind (arith, nat_tests)
 
 -- at the end no run is left
-pub Ends-all : (source : List ℕ) (at : ℕ) (ends : List ℕ) → length source ≤ at → Ends source at ends → AreLastEnds source ends
+pub run_end-past : (source : List ℕ) (n at : ℕ) → 0 < n → length source ≤ at → run_end n 0 (drop at source) ≡ None
 unfolding run_end
+run_end-past source n at some le = ap (run_end n 0) (drop_all at source le) ∙ ap (λ v. cond v (Some 0) None) (zero-none n some)
+
+pub Ends-all : (source : List ℕ) (at : ℕ) (ends : List ℕ) → length source ≤ at → Ends source at ends → AreLastEnds source ends
 Ends-all source at ends le e n some p last plain = go (nat_le p at) refl
   where
-    over : (k : ℕ) → length source ≤ k → run_end n 0 (drop k source) ≡ None
-    over k h = ap (run_end n 0) (drop_all k source h) ∙ ap (λ v. cond v (Some 0) None) (zero-none n some)
-
     go : (v : Bool) → nat_le p at ≡ v → run_end n 0 (drop p source) ≡ None
-    go true h = e.none n p some (grind (arith, nat_tests)) last plain (over at le)
-    go false h = over p (let far : at < p = grind (arith, nat_tests) in omega arith)
+    go true h = e.none n p some (grind (arith, nat_tests)) last plain (run_end-past source n at some le)
+    go false h = run_end-past source n p some (let far : at < p = grind (arith, nat_tests) in omega arith)
 
 -- a byte that is no backtick
 pub Ends-other : (source : List ℕ) (at : ℕ) (ends : List ℕ) → at < length source → (get_or source at 0 ≡ 96 → ⊥) → Ends source at ends → Ends source (at + 1) ends

@@ -88,8 +88,12 @@ fn destination(source: &[u8], at: usize, parens: &mut Parens) -> Result<Form, Al
     if let Some(form) = angled(bytes) {
         return Ok(form);
     }
-    let stop = parens.next_stop(source, at)?;
+    let stop = parens.next_stop(source, at);
     let n = plain_length(bytes, stop - at);
+    if byte_at(bytes, n) == b'(' {
+        // It stays open: no other such one is gone over twice.
+        parens.learn(source)?;
+    }
     Ok(Form {
         from: 0,
         to: n,

@@ -76,7 +76,11 @@ pub fn code(source: &[u8], at: usize, runs: &mut TickRuns) -> Result<Option<Cut>
     if n == 0 {
         return Ok(None);
     }
-    let last = runs.last_end(source, n)?;
+    let last = runs.last_end(source, n);
     let end = next_end(source, at + n, n, last);
+    if end.is_none() {
+        // No run is looked for in vain twice.
+        runs.learn(source)?;
+    }
     Ok(Some(code_or_text(n, end)))
 }

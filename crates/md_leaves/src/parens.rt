@@ -21,11 +21,15 @@ pub fn at_bar(bytes: &[u8], at: usize) -> bool
     ensures { result ≡ at_bar (drop at bytes.now) }
 {
     let first = bytes[at];
+    // Most bytes are told by these two.
+    if first > b' ' && first < 127 {
+        return false;
+    }
     is_blank(first) || begins_control(first, byte_at(bytes, at + 1))
 }
 
-/// The `(` of a source that no `)` closes before the next blank or control character. It is read once the first
-/// destination is met.
+/// The `(` of a source that no `)` closes before the next blank or control character. The source is read once a
+/// destination met one of them.
 #[derive(Drop)]
 pub struct Parens {
     /// Their offsets, the last one first; those of places that were passed are taken off.
@@ -44,10 +48,9 @@ impl Parens {
     }
 
     /// Reads the source if it was not read before.
-    fn learn(&mut self, source: &[u8]) -> Result<(), AllocError>
+    pub fn learn(&mut self, source: &[u8]) -> Result<(), AllocError>
         requires { KnowsStops source.now self.old }
-        ensures kept { KnowsStops source.now self.new }
-        ensures known { OnOk result (self.new.is_known ≡ true) }
+        ensures { KnowsStops source.now self.new }
     {
         if self.is_known {
             return Ok(());
@@ -58,21 +61,24 @@ impl Parens {
         Ok(())
     }
 
-    /// The next offset, from this one on, that no destination goes over.
-    pub fn next_stop(&mut self, source: &[u8], at: usize) -> Result<usize, AllocError>
+    /// An offset, from this one on, that no destination goes over: the next `(` that is known to stay open, or the end.
+    pub fn next_stop(&mut self, source: &[u8], at: usize) -> usize
         requires within { at ≤ length source.now }
         requires known { KnowsStops source.now self.old }
         ensures kept { KnowsStops source.now self.new }
-        ensures stop { IfOk result (λ next. (at ≤ next) × IsStop source.now next) }
+        ensures from { at ≤ result }
+        ensures stop { IsStop source.now result }
     {
-        self.learn(source)?;
+        if !self.is_known {
+            return source.len();
+        }
         while let Some(next) = self.stops.as_slice().last().copied() {
             if next >= at {
-                return Ok(next);
+                return next;
             }
             let _ = self.stops.pop();
         }
-        Ok(source.len())
+        source.len()
     }
 }
 

@@ -6,7 +6,7 @@ ghost use Rattle.md_leaves.specs.Ahead.{AreLastEnds, IsLastEnd, KnowsRuns};
 use crate::bytes::{Class, rest_of, stretch};
 use std::alloc::{AllocError, Global};
 
-/// The runs of backticks of a source, which is read once the first run is met.
+/// The runs of backticks of a source, which is read once a run was looked for in vain.
 #[derive(Drop)]
 pub struct TickRuns {
     /// For each length, an offset from which on no run of that length stands.
@@ -25,10 +25,9 @@ impl TickRuns {
     }
 
     /// Reads the source if it was not read before.
-    fn learn(&mut self, source: &[u8]) -> Result<(), AllocError>
+    pub fn learn(&mut self, source: &[u8]) -> Result<(), AllocError>
         requires { KnowsRuns source.now self.old }
-        ensures kept { KnowsRuns source.now self.new }
-        ensures known { OnOk result (self.new.is_known ≡ true) }
+        ensures { KnowsRuns source.now self.new }
     {
         if self.is_known {
             return Ok(());
@@ -39,15 +38,17 @@ impl TickRuns {
         Ok(())
     }
 
-    /// An offset from which on no maximal run of so many backticks stands.
-    pub fn last_end(&mut self, source: &[u8], n: usize) -> Result<usize, AllocError>
+    /// An offset from which on no maximal run of so many backticks stands; the end while the source was not read.
+    pub fn last_end(&self, source: &[u8], n: usize) -> usize
         requires some { 0 < n }
-        requires known { KnowsRuns source.now self.old }
-        ensures kept { KnowsRuns source.now self.new }
-        ensures last { IfOk result (λ last. IsLastEnd source.now n last) }
+        requires known { KnowsRuns source.now self.now }
+        ensures { IsLastEnd source.now n result }
     {
-        self.learn(source)?;
-        Ok(number_at(self.ends.as_slice(), n))
+        if self.is_known {
+            number_at(self.ends.as_slice(), n)
+        } else {
+            source.len()
+        }
     }
 }
 
