@@ -61,7 +61,7 @@ impl<'e, 'a> Machine<'e, 'a> {
             tag,
             environment: self.environment,
         })?;
-        self.environment = self.environment.inside(options.styles(), tag);
+        self.environment = self.environment.inside(self.alloc, options.styles(), tag)?;
         Ok(())
     }
 
@@ -76,9 +76,11 @@ impl<'e, 'a> Machine<'e, 'a> {
             ≡ leaf_step (look_of options.now S.sheet (H.known _highlighter.now) (H.answer _highlighter.now)) self.old leaf.now) }
     {
         match self.environment.within {
-            Within::Lines => self.line_leaf(options.styles(), leaf),
-            Within::Code => self.keep(leaf),
+            Within::Lines => self.line_leaf(options.styles(), leaf)?,
+            Within::Code => self.keep(leaf)?,
         }
+        self.environment = self.environment.behind(leaf)?;
+        Ok(())
     }
 
     /// The text of a leaf is content.
@@ -103,7 +105,7 @@ impl<'e, 'a> Machine<'e, 'a> {
         match self.frames.pop() {
             None => Ok(()),
             Some(frame) => {
-                self.environment = frame.environment;
+                self.environment = frame.environment.restored(frame.tag, self.environment);
                 let content = mem::replace(&mut self.content, String::new(self.alloc));
                 self.leave(options, highlighter, frame.tag, content.as_str())
             }
