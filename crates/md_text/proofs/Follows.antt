@@ -1,5 +1,5 @@
 -- What follows an element.
-use Rattle.std.proofs.Common.{◌≡◌, List, ◌++◌, [], ap, sym, refl}
+use Rattle.std.proofs.Common.{◌≡◌, List, ◌++◌, ap, sym, refl}
 use Rattle.std.proofs.lemmas.List.{append-nil}
 use Rattle.md_tree.specs.declared.event.Tag.{Tag}
 use Rattle.md_tree.specs.declared.event.Tag.TheVariants as tag
@@ -7,7 +7,7 @@ use Rattle.md_tree.specs.Tree.{Nodes, Empty, Branch}
 use Rattle.md_text.specs.declared.environment.Environment.{Environment}
 use Rattle.md_text.specs.declared.environment.Spacing.{Spacing}
 use Rattle.md_text.specs.Marks.{Mark}
-use Rattle.md_text.specs.Laid.{Laid, then_laid}
+use Rattle.md_text.specs.Laid.{then_laid}
 use Rattle.md_text.specs.Look.{Look}
 use Rattle.md_text.specs.Environment.{environment_inside, environment_after}
 use Rattle.md_text.specs.Texts.{texts}

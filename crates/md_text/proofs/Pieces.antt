@@ -130,20 +130,20 @@ puts-coloured_line : (spacing : Spacing) (line : LineView) → puts (coloured_li
 puts-coloured_line spacing line = puts-put_all (open_styled 0 no_style spacing).after line.spans
 
 puts-answered_line : (look : Look) (lang : List ℕ) (spacing : Spacing) (line : List ℕ) →
-    puts (answered_line look lang spacing line).marks ≡ coloured_pieces (look.answer lang line)
+    puts (answered_line look.answer lang spacing line).marks ≡ coloured_pieces (look.answer lang line)
 puts-answered_line look lang spacing line =
     puts-each coloured_line (λ (view : LineView). pieces_of view.spans) puts-coloured_line spacing (ansi (look.answer lang line))
 
 puts-code_lines : (look : Look) (env : Environment) (spacing : Spacing) (kind : CodeBlockKind) (all : List (List ℕ)) →
-    puts (code_lines look (code_environment look env kind) spacing kind all).marks ≡ code_line_pieces look env kind all
-puts-code_lines look env spacing kind all = by_test (recognised look kind)
+    puts (code_lines look.known look.answer (code_environment look env kind) spacing kind all).marks ≡ code_line_pieces look env kind all
+puts-code_lines look env spacing kind all = by_test (recognised look.known kind)
   where
     by_test : (b : Bool) →
-        puts (if b then each_laid (answered_line look (info kind)) spacing all
+        puts (if b then each_laid (answered_line look.answer (info kind)) spacing all
         else text_lines false (if b then env else record env { line_style = look.sheet.code }) spacing all).marks
         ≡ (if b then each_pieces (λ line. coloured_pieces (look.answer (info kind) line)) all else line_pieces env all)
     by_test true =
-        puts-each (answered_line look (info kind)) (λ line. coloured_pieces (look.answer (info kind) line)) (puts-answered_line look (info kind)) spacing all
+        puts-each (answered_line look.answer (info kind)) (λ line. coloured_pieces (look.answer (info kind) line)) (puts-answered_line look (info kind)) spacing all
     by_test false = puts-text_lines false (record env { line_style = look.sheet.code }) spacing all
 
 puts-apart : (env : Environment) (due : Bool) (f : Fresh) (any : Bool) →
@@ -157,7 +157,7 @@ puts-code_block look env spacing kind content =
     let env_in = code_environment look env kind in
     let a = apart env spacing in
     let b = fence look.sheet env_in a.after (info kind) in
-    let c = code_lines look env_in b.after kind (lines content) in
+    let c = code_lines look.known look.answer env_in b.after kind (lines content) in
     let d = fence look.sheet env_in c.after [] in
     let first = fence_pieces look.sheet (info kind) in
     let between = code_line_pieces look env kind (lines content) in

@@ -1,5 +1,5 @@
 -- Blocks begin lines of their own.
-use Rattle.std.proofs.Common.{◌≡◌, ◌==◌, if◌then◌else◌, ℕ, Option, None, Some, List, [], ◌∷◌, ◌++◌, Bool, true, false, not, ◌&&◌, length, refl, ap}
+use Rattle.std.proofs.Common.{◌≡◌, ◌==◌, if◌then◌else◌, ℕ, None, Some, List, [], ◌∷◌, ◌++◌, Bool, true, false, not, ◌&&◌, length, refl, ap}
 use Rattle.std.specs.Str.Lines.{lines}
 use Rattle.md_tree.specs.declared.event.CodeBlockKind.{CodeBlockKind}
 use Rattle.md_tree.specs.declared.event.Event.{Event}
@@ -114,7 +114,7 @@ each-begins one h spacing (x ∷ xs) =
     starts-append (one spacing x).marks (each_laid one (one spacing x).after xs).marks (h spacing x) (each-begins one h (one spacing x).after xs)
 
 answered_line-begins : (look : Look) (lang : List ℕ) (spacing : Spacing) (line : List ℕ) →
-    begins_line (answered_line look lang spacing line).marks ≡ true
+    begins_line (answered_line look.answer lang spacing line).marks ≡ true
 answered_line-begins look lang spacing line = each-begins coloured_line (λ _ _. refl) spacing (ansi (look.answer lang line))
 
 text_lines-begin : (env : Environment) (spacing : Spacing) (all : List (List ℕ)) → begins_line (text_lines false env spacing all).marks ≡ true
@@ -122,12 +122,12 @@ text_lines-begin env spacing [] = refl
 text_lines-begin env spacing (line ∷ others) = refl
 
 code_lines-begin : (look : Look) (env : Environment) (spacing : Spacing) (kind : CodeBlockKind) (all : List (List ℕ)) →
-    begins_line (code_lines look env spacing kind all).marks ≡ true
-code_lines-begin look env spacing kind all = by_test (recognised look kind)
+    begins_line (code_lines look.known look.answer env spacing kind all).marks ≡ true
+code_lines-begin look env spacing kind all = by_test (recognised look.known kind)
   where
     by_test : (b : Bool) →
-        begins_line (if b then each_laid (answered_line look (info kind)) spacing all else text_lines false env spacing all).marks ≡ true
-    by_test true = each-begins (answered_line look (info kind)) (answered_line-begins look (info kind)) spacing all
+        begins_line (if b then each_laid (answered_line look.answer (info kind)) spacing all else text_lines false env spacing all).marks ≡ true
+    by_test true = each-begins (answered_line look.answer (info kind)) (answered_line-begins look (info kind)) spacing all
     by_test false = text_lines-begin env spacing all
 
 heading-opens : (sheet : Sheet) (env : Environment) (due : Bool) (f : Fresh) (any : Bool) (level : HeadingLevel) →
@@ -142,7 +142,7 @@ code_block-begins look env due f false kind content =
     let env_in = code_environment look env kind in
     let spacing : Spacing = record { due = due; fresh = f; any_line = false } in
     let a = fence look.sheet env_in spacing (info kind) in
-    let b = code_lines look env_in a.after kind (lines content) in
+    let b = code_lines look.known look.answer env_in a.after kind (lines content) in
     let c = fence look.sheet env_in b.after [] in
     starts-append (a.marks ++ (b.marks ++ c.marks)) []
     (starts-append a.marks (b.marks ++ c.marks) (fence-begins look.sheet env_in spacing (info kind))

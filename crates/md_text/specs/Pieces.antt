@@ -75,7 +75,7 @@ coloured_pieces bytes = each_pieces (λ (line : LineView). pieces_of line.spans)
 
 abbrev pub code_line_pieces : Look → Environment → CodeBlockKind → List (List ℕ) → List SpanView
 code_line_pieces look env kind all =
-    if recognised look kind then each_pieces (λ line. coloured_pieces (look.answer (info kind) line)) all
+    if recognised look.known kind then each_pieces (λ line. coloured_pieces (look.answer (info kind) line)) all
     else line_pieces env all
 
 -- a block of code: its fence with the info text, its lines, and its fence

@@ -6,6 +6,7 @@ use Rattle.md_tree.specs.declared.event.Event.TheVariants as event
 use Rattle.md_tree.specs.declared.event.Tag.{Tag}
 use Rattle.md_tree.specs.declared.event.Tag.TheVariants as tag
 use Rattle.md_tree.specs.Tree.{Empty}
+use Rattle.md_table.specs.Sheet.{Sheet}
 use Rattle.md_text.specs.declared.environment.Environment.{Environment}
 use Rattle.md_text.specs.declared.environment.Spacing.{Spacing}
 use Rattle.md_text.specs.declared.environment.Within.{Within}
@@ -51,12 +52,12 @@ laid state new =
     }
 
 -- an element starts: what it lays out before its inside, and it is kept for its end; nothing inside it is known yet
-abbrev pub started : Look → State → Tag → State
-started look state tag =
-    let entered = enter look.sheet state.environment state.spacing tag in
+abbrev pub started : Sheet → State → Tag → State
+started sheet state tag =
+    let entered = enter sheet state.environment state.spacing tag in
     record {
       open_elements = record { tag = tag; environment = state.environment } ∷ state.open_elements;
-      environment = environment_inside look.sheet state.environment tag Empty;
+      environment = environment_inside sheet state.environment tag Empty;
       spacing = entered.after;
       content = state.content;
       lines = draws state.lines entered.marks;
@@ -87,19 +88,19 @@ environment_behind env (event.TaskListMarker is_done) = record env { item_width 
 environment_behind env e = env
 
 -- a leaf is laid out, or is content
-abbrev pub leaf_step : Look → State → Event → State
-leaf_step look state e =
+abbrev pub leaf_step : Sheet → State → Event → State
+leaf_step sheet state e =
     laid
     (record state {
       environment = environment_behind state.environment e;
       content = content_within state.environment.within state.content e;
     })
-    (leaf look.sheet state.environment state.spacing e)
+    (leaf sheet state.environment state.spacing e)
 
 abbrev pub step : Look → State → Event → State
-step look state (event.Start tag) = started look state tag
+step look state (event.Start tag) = started look.sheet state tag
 step look state (event.End end) = ended look state
-step look state e = leaf_step look state e
+step look state e = leaf_step look.sheet state e
 
 -- the events, one after another
 abbrev pub run : Look → List Event → State → State
