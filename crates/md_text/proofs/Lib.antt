@@ -4,6 +4,8 @@ pub mod Each
 pub mod TextLines
 pub mod Words
 pub mod CodeInside
+pub mod Widths
 pub mod Runs
 pub mod Pieces
 pub mod Starts
+pub mod Follows

@@ -1,9 +1,10 @@
 -- The spans that a layout puts are the pieces of its tree.
-use Rattle.std.proofs.Common.{◌≡◌, ℕ, List, [], ◌∷◌, ◌++◌, Bool, true, false, ◌==◌, if◌then◌else◌, length, refl, ap, ◌∙◌}
+use Rattle.std.proofs.Common.{◌≡◌, ℕ, List, [], ◌∷◌, ◌++◌, Bool, true, false, ◌==◌, if◌then◌else◌, Option, None, Some, codes, length, refl, ap, ◌∙◌}
 use Rattle.std.proofs.lemmas.List.{append-nil}
 use Rattle.std.specs.Str.Lines.{lines}
 use Rattle.term_text.specs.Style.{no_style}
 use Rattle.term_text.specs.Text.{SpanView, LineView}
+use Rattle.md_tree.specs.declared.event.BlockQuoteKind.{BlockQuoteKind}
 use Rattle.md_tree.specs.declared.event.CodeBlockKind.{CodeBlockKind}
 use Rattle.md_tree.specs.declared.event.Event.{Event}
 use Rattle.md_tree.specs.declared.event.Event.TheVariants as event
@@ -12,6 +13,8 @@ use Rattle.md_tree.specs.declared.event.Tag.{Tag}
 use Rattle.md_tree.specs.declared.event.Tag.TheVariants as tag
 use Rattle.md_tree.specs.Tree.{Nodes, Empty, Leaf, Branch}
 use Rattle.ansi_text.specs.Ansi.{ansi}
+use Rattle.md_table.specs.declared.alert.AlertKind.{AlertKind}
+use Rattle.md_table.specs.Defaults.{bold}
 use Rattle.md_table.specs.Sheet.{Sheet}
 use Rattle.md_text.specs.declared.environment.Environment.{Environment}
 use Rattle.md_text.specs.declared.environment.Spacing.{Spacing}
@@ -20,16 +23,19 @@ use Rattle.md_text.specs.declared.environment.Fresh.TheVariants as fresh
 use Rattle.md_text.specs.Marks.{Mark, Open, Put, Pad, plain_span, styled_span}
 use Rattle.md_text.specs.declared.environment.Within.{Within}
 use Rattle.md_text.specs.declared.environment.Within.TheVariants.{Lines, Code}
-use Rattle.md_text.specs.Laid.{Laid, nothing_laid, then_laid, each_laid, open_styled, open_laid, join_laid, put_laid, put_all}
+use Rattle.md_text.specs.Laid.{Laid, nothing_laid, then_laid, each_laid, open_styled, open_laid, gap_laid, join_laid, put_laid, put_all}
 use Rattle.md_text.specs.Look.{Look}
-use Rattle.md_text.specs.Environment.{environment_inside}
+use Rattle.md_text.specs.Environment.{environment_inside, environment_after}
 use Rattle.md_text.specs.Headings.{level_number, with_blank, heading, attribute_suffix}
 use Rattle.md_text.specs.Blocks.{paragraph, enter, leave}
-use Rattle.md_text.specs.Inlines.{begin_line, text_lines, link_spans, line_leaf, leaf_within, leaf}
+use Rattle.md_text.specs.Inlines.{begin_line, text_lines, rule, link_spans, line_leaf, leaf_within, leaf}
 use Rattle.md_text.specs.Code.{info, recognised, code_environment, fence, coloured_line, answered_line, code_lines, apart, code_block}
 use Rattle.md_text.specs.Texts.{texts}
+use Rattle.md_text.specs.Alerts.{alert_of}
+use Rattle.md_text.specs.Containers.{alert_title, alert, quote, list}
+use Rattle.md_text.specs.Markers.{marker}
 use Rattle.md_text.specs.Layout.{layout}
-use Rattle.md_text.specs.Pieces.{puts, piece, pieces_of, each_pieces, line_pieces, line_leaf_pieces, pieces_within, leaf_pieces, fence_pieces, coloured_pieces, code_line_pieces, code_pieces, pieces_before, pieces_behind, pieces}
+use Rattle.md_text.specs.Pieces.{puts, piece, pieces_of, each_pieces, line_pieces, line_leaf_pieces, pieces_within, leaf_pieces, fence_pieces, coloured_pieces, code_line_pieces, code_pieces, quote_pieces, pieces_before, pieces_behind, pieces}
 
 pub puts-append : (a b : List Mark) → puts (a ++ b) ≡ puts a ++ puts b
 puts-append [] b = refl
@@ -82,6 +88,16 @@ puts-text_lines is_first env spacing (line ∷ others) =
     (puts2 a.marks b.marks [] (piece span) (puts-begin is_first env spacing) (puts-put a.after span))
     (puts-text_lines false env b.after others)
 
+puts-gap : (env : Environment) (due : Bool) (f : Fresh) (any : Bool) →
+    puts (gap_laid env (record { due = due; fresh = f; any_line = any })).marks ≡ []
+puts-gap env true f any = refl
+puts-gap env false f any = refl
+
+puts-rule : (env : Environment) (due : Bool) (f : Fresh) (any : Bool) →
+    puts (rule env (record { due = due; fresh = f; any_line = any })).marks ≡ plain_span (codes "---") ∷ []
+puts-rule env true f any = refl
+puts-rule env false f any = refl
+
 puts-line_leaf : (sheet : Sheet) (env : Environment) (spacing : Spacing) (e : Event) →
     puts (line_leaf sheet env spacing e).marks ≡ line_leaf_pieces sheet env e
 puts-line_leaf sheet env spacing (event.Text bytes) = puts-text_lines true env spacing (lines bytes)
@@ -89,6 +105,7 @@ puts-line_leaf sheet env spacing (event.Code bytes) =
     let a = join_laid env spacing in
     puts2 a.marks (put_laid a.after (styled_span bytes sheet.code)).marks [] (piece (styled_span bytes sheet.code))
     (puts-join env spacing.due spacing.fresh spacing.any_line) (puts-put a.after (styled_span bytes sheet.code))
+puts-line_leaf sheet env spacing event.Rule = puts-rule env spacing.due spacing.fresh spacing.any_line
 puts-line_leaf sheet env spacing e = refl
 
 puts-leaf_within : (within : Within) (sheet : Sheet) (env : Environment) (spacing : Spacing) (e : Event) →
@@ -113,20 +130,20 @@ puts-coloured_line : (spacing : Spacing) (line : LineView) → puts (coloured_li
 puts-coloured_line spacing line = puts-put_all (open_styled 0 no_style spacing).after line.spans
 
 puts-answered_line : (look : Look) (lang : List ℕ) (spacing : Spacing) (line : List ℕ) →
-    puts (answered_line look lang spacing line).marks ≡ coloured_pieces (look.answer lang line)
+    puts (answered_line look.answer lang spacing line).marks ≡ coloured_pieces (look.answer lang line)
 puts-answered_line look lang spacing line =
     puts-each coloured_line (λ (view : LineView). pieces_of view.spans) puts-coloured_line spacing (ansi (look.answer lang line))
 
 puts-code_lines : (look : Look) (env : Environment) (spacing : Spacing) (kind : CodeBlockKind) (all : List (List ℕ)) →
-    puts (code_lines look (code_environment look env kind) spacing kind all).marks ≡ code_line_pieces look env kind all
-puts-code_lines look env spacing kind all = by_test (recognised look kind)
+    puts (code_lines look.known look.answer (code_environment look env kind) spacing kind all).marks ≡ code_line_pieces look env kind all
+puts-code_lines look env spacing kind all = by_test (recognised look.known kind)
   where
     by_test : (b : Bool) →
-        puts (if b then each_laid (answered_line look (info kind)) spacing all
+        puts (if b then each_laid (answered_line look.answer (info kind)) spacing all
         else text_lines false (if b then env else record env { line_style = look.sheet.code }) spacing all).marks
         ≡ (if b then each_pieces (λ line. coloured_pieces (look.answer (info kind) line)) all else line_pieces env all)
     by_test true =
-        puts-each (answered_line look (info kind)) (λ line. coloured_pieces (look.answer (info kind) line)) (puts-answered_line look (info kind)) spacing all
+        puts-each (answered_line look.answer (info kind)) (λ line. coloured_pieces (look.answer (info kind) line)) (puts-answered_line look (info kind)) spacing all
     by_test false = puts-text_lines false (record env { line_style = look.sheet.code }) spacing all
 
 puts-apart : (env : Environment) (due : Bool) (f : Fresh) (any : Bool) →
@@ -140,7 +157,7 @@ puts-code_block look env spacing kind content =
     let env_in = code_environment look env kind in
     let a = apart env spacing in
     let b = fence look.sheet env_in a.after (info kind) in
-    let c = code_lines look env_in b.after kind (lines content) in
+    let c = code_lines look.known look.answer env_in b.after kind (lines content) in
     let d = fence look.sheet env_in c.after [] in
     let first = fence_pieces look.sheet (info kind) in
     let between = code_line_pieces look env kind (lines content) in
@@ -166,17 +183,35 @@ puts-paragraph env false fresh.Prefix any = refl
 puts-put-then : (spacing : Spacing) (span : SpanView) → puts ((put_laid spacing span).marks ++ []) ≡ piece span
 puts-put-then spacing span = puts2 (put_laid spacing span).marks [] (piece span) [] (puts-put spacing span) refl ∙ append-nil (piece span)
 
+puts-alert : (sheet : Sheet) (env : Environment) (due : Bool) (f : Fresh) (any : Bool) (kind : AlertKind) →
+    puts (alert sheet env (record { due = due; fresh = f; any_line = any }) kind).marks ≡ piece (styled_span (alert_title sheet kind) (bold (sheet.alert kind)))
+puts-alert sheet env true f any kind = puts-put-then (record { due = false; fresh = fresh.No; any_line = true }) (styled_span (alert_title sheet kind) (bold (sheet.alert kind)))
+puts-alert sheet env false f any kind = puts-put-then (record { due = false; fresh = fresh.No; any_line = true }) (styled_span (alert_title sheet kind) (bold (sheet.alert kind)))
+
 puts-heading : (sheet : Sheet) (env : Environment) (due : Bool) (f : Fresh) (any : Bool) (level : HeadingLevel) →
     puts (heading sheet env (record { due = due; fresh = f; any_line = any }) level).marks ≡ piece (plain_span (with_blank (sheet.heading_marker (level_number level))))
 puts-heading sheet env true f any level = puts-put-then (record { due = true; fresh = fresh.No; any_line = true }) (plain_span (with_blank (sheet.heading_marker (level_number level))))
 puts-heading sheet env false f any level = puts-put-then (record { due = false; fresh = fresh.No; any_line = true }) (plain_span (with_blank (sheet.heading_marker (level_number level))))
 
-puts-enter : (sheet : Sheet) (env : Environment) (s : Spacing) (t : Tag) → puts (enter sheet env s t).marks ≡ pieces_before sheet t
+puts-quote : (sheet : Sheet) (env : Environment) (s : Spacing) (kind : Option BlockQuoteKind) →
+    puts (quote sheet env s kind).marks ≡ quote_pieces sheet kind
+puts-quote sheet env s None = puts-join env s.due s.fresh s.any_line
+puts-quote sheet env s (Some kind) = puts-alert sheet env s.due s.fresh s.any_line (alert_of kind)
+
+puts-list : (env : Environment) (s : Spacing) → puts (list env s).marks ≡ []
+puts-list env s = by_test (env.depth == 0)
+  where
+    by_test : (b : Bool) → puts (if b then gap_laid env s else nothing_laid s).marks ≡ []
+    by_test true = puts-gap env s.due s.fresh s.any_line
+    by_test false = refl
+
+puts-enter : (sheet : Sheet) (env : Environment) (s : Spacing) (t : Tag) → puts (enter sheet env s t).marks ≡ pieces_before sheet env t
 puts-enter sheet env s tag.Paragraph = puts-paragraph env s.due s.fresh s.any_line
-puts-enter sheet env s (tag.Heading level id classes attrs) =
-    puts-heading sheet env s.due s.fresh s.any_line level
+puts-enter sheet env s (tag.Heading level id classes attrs) = puts-heading sheet env s.due s.fresh s.any_line level
+puts-enter sheet env s (tag.BlockQuote kind) = puts-quote sheet env s kind
+puts-enter sheet env s (tag.List start) = puts-list env s
+puts-enter sheet env s tag.Item = puts-put-then (record { due = s.due; fresh = fresh.No; any_line = true }) (marker sheet env.depth env.number)
 puts-enter sheet env s tag.HtmlBlock = puts-paragraph env s.due s.fresh s.any_line
-puts-enter sheet env s tag.Item = puts-paragraph env s.due s.fresh s.any_line
 puts-enter sheet env s tag.DefinitionListTitle = puts-paragraph env s.due s.fresh s.any_line
 puts-enter sheet env s tag.DefinitionListDefinition = puts-paragraph env s.due s.fresh s.any_line
 puts-enter sheet env s tag.TableCell = puts-paragraph env s.due s.fresh s.any_line
@@ -199,14 +234,16 @@ puts-layout look (Leaf e rest) env spacing =
     puts2 a.marks (layout look env a.after rest).marks (leaf_pieces look.sheet env e) (pieces look env rest)
     (puts-leaf_within env.within look.sheet env spacing e) (puts-layout look rest env a.after)
 puts-layout look (Branch t inside rest) env spacing =
-    let env_in = environment_inside look.sheet env t in
+    let env_in = environment_inside look.sheet env t inside in
+    let env_after = environment_after env t in
     let a = enter look.sheet env spacing t in
     let b = layout look env_in a.after inside in
     let c = leave look env b.after t (texts inside) in
-    let d = layout look env c.after rest in
+    let d = layout look env_after c.after rest in
+    let first = pieces_before look.sheet env t in
     let within = pieces look env_in inside in
     let last = pieces_behind look env t (texts inside) in
-    puts2 (a.marks ++ (b.marks ++ c.marks)) d.marks (pieces_before look.sheet t ++ (within ++ last)) (pieces look env rest)
-    (puts2 a.marks (b.marks ++ c.marks) (pieces_before look.sheet t) (within ++ last) (puts-enter look.sheet env spacing t)
+    puts2 (a.marks ++ (b.marks ++ c.marks)) d.marks (first ++ (within ++ last)) (pieces look env_after rest)
+    (puts2 a.marks (b.marks ++ c.marks) first (within ++ last) (puts-enter look.sheet env spacing t)
     (puts2 b.marks c.marks within last (puts-layout look inside env_in a.after) (puts-leave look env b.after t (texts inside))))
-    (puts-layout look rest env c.after)
+    (puts-layout look rest env_after c.after)

@@ -11,6 +11,7 @@ use Rattle.md_text.specs.Laid.{Laid, nothing_laid, then_laid, open_laid, gap_lai
 use Rattle.md_text.specs.Look.{Look}
 use Rattle.md_text.specs.Headings.{heading, heading_end}
 use Rattle.md_text.specs.Inlines.{link_end}
+use Rattle.md_text.specs.Containers.{quote, list, item}
 use Rattle.md_text.specs.Code.{code_block}
 
 abbrev pub is_fresh : Fresh → Bool
@@ -31,20 +32,23 @@ abbrev pub enter : Sheet → Environment → Spacing → Tag → Laid
 enter sheet env spacing tag.Paragraph = paragraph env spacing
 enter sheet env spacing (tag.Heading level id classes attrs) = heading sheet env spacing level
 enter sheet env spacing tag.HtmlBlock = paragraph env spacing
-enter sheet env spacing tag.Item = paragraph env spacing
+enter sheet env spacing (tag.BlockQuote kind) = quote sheet env spacing kind
+enter sheet env spacing (tag.List start) = list env spacing
+enter sheet env spacing tag.Item = item sheet env spacing
 enter sheet env spacing tag.DefinitionListTitle = paragraph env spacing
 enter sheet env spacing tag.DefinitionListDefinition = paragraph env spacing
 enter sheet env spacing tag.TableCell = paragraph env spacing
 enter sheet env spacing tag.MetadataBlock = paragraph env spacing
 enter sheet env spacing _ = nothing_laid spacing
 
--- behind what is inside, whose joined texts are content: a line is due behind a paragraph, and behind what begins as one
+-- behind what is inside, whose joined texts are content: a line is due behind a block
 abbrev pub leave : Look → Environment → Spacing → Tag → List ℕ → Laid
 leave look env spacing tag.Paragraph content = nothing_laid (with_due true spacing)
 leave look env spacing (tag.Heading level id classes attrs) content = heading_end look.sheet spacing id classes attrs
 leave look env spacing (tag.CodeBlock kind) content = code_block look env spacing kind content
 leave look env spacing tag.HtmlBlock content = nothing_laid (with_due true spacing)
-leave look env spacing tag.Item content = nothing_laid (with_due true spacing)
+leave look env spacing (tag.BlockQuote kind) content = nothing_laid (with_due true spacing)
+leave look env spacing (tag.List start) content = nothing_laid (with_due true spacing)
 leave look env spacing tag.DefinitionListTitle content = nothing_laid (with_due true spacing)
 leave look env spacing tag.DefinitionListDefinition content = nothing_laid (with_due true spacing)
 leave look env spacing tag.TableCell content = nothing_laid (with_due true spacing)

@@ -20,13 +20,13 @@ info Indented = []
 info (Fenced bytes) = bytes
 
 -- fenced code whose info text the highlighter knows is recognised; indented code never is
-abbrev pub recognised : Look → CodeBlockKind → Bool
-recognised look Indented = false
-recognised look (Fenced bytes) = look.known bytes
+abbrev pub recognised : (List ℕ → Bool) → CodeBlockKind → Bool
+recognised known Indented = false
+recognised known (Fenced bytes) = known bytes
 
 -- inside code that is not recognised the line style is that of code
 abbrev pub code_environment : Look → Environment → CodeBlockKind → Environment
-code_environment look env kind = if recognised look kind then env else record env { line_style = look.sheet.code }
+code_environment look env kind = if recognised look.known kind then env else record env { line_style = look.sheet.code }
 
 -- the fence and a text behind it, plain, on a line of their own; nothing if the sheet has no fence
 abbrev pub fence : Sheet → Environment → Spacing → List ℕ → Laid
@@ -43,20 +43,20 @@ abbrev pub coloured_text : Spacing → List ℕ → Laid
 coloured_text spacing bytes = each_laid coloured_line spacing (ansi bytes)
 
 -- what the highlighter answers for a line of code
-abbrev pub answered_line : Look → List ℕ → Spacing → List ℕ → Laid
-answered_line look lang spacing line = coloured_text spacing (look.answer lang line)
+abbrev pub answered_line : (List ℕ → List ℕ → List ℕ) → List ℕ → Spacing → List ℕ → Laid
+answered_line answer lang spacing line = coloured_text spacing (answer lang line)
 
 -- the lines of code: coloured if it is recognised, else each put in the inline style on a line of its own
-abbrev pub code_lines : Look → Environment → Spacing → CodeBlockKind → List (List ℕ) → Laid
-code_lines look env spacing kind all =
-    if recognised look kind then each_laid (answered_line look (info kind)) spacing all
+abbrev pub code_lines : (List ℕ → Bool) → (List ℕ → List ℕ → List ℕ) → Environment → Spacing → CodeBlockKind → List (List ℕ) → Laid
+code_lines known answer env spacing kind all =
+    if recognised known kind then each_laid (answered_line answer (info kind)) spacing all
     else text_lines false env spacing all
 
 -- the fence with the info text, the lines, and the fence
 abbrev pub fenced_lines : Look → Environment → Spacing → CodeBlockKind → List ℕ → Laid
 fenced_lines look env spacing kind bytes =
     then_laid (fence look.sheet env spacing (info kind)) (λ begun.
-    then_laid (code_lines look env begun kind (lines bytes)) (λ behind. fence look.sheet env behind []))
+    then_laid (code_lines look.known look.answer env begun kind (lines bytes)) (λ behind. fence look.sheet env behind []))
 
 -- if any line stands above, Open
 abbrev pub apart : Environment → Spacing → Laid

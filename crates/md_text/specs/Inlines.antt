@@ -1,5 +1,5 @@
 -- What inlines lay out.
-use Rattle.std.specs.Prelude.{ℕ, Bool, true, false, List, [], ◌∷◌, codes}
+use Rattle.std.specs.Prelude.{ℕ, if◌then◌else◌, Bool, true, false, List, [], ◌∷◌, codes}
 use Rattle.std.specs.Str.Lines.{lines}
 use Rattle.term_text.specs.Text.{SpanView}
 use Rattle.md_tree.specs.declared.event.Event.{Event}
@@ -9,8 +9,8 @@ use Rattle.md_text.specs.declared.environment.Environment.{Environment}
 use Rattle.md_text.specs.declared.environment.Spacing.{Spacing}
 use Rattle.md_text.specs.declared.environment.Within.{Within}
 use Rattle.md_text.specs.declared.environment.Within.TheVariants.{Lines, Code}
-use Rattle.md_text.specs.Marks.{plain_span, styled_span}
-use Rattle.md_text.specs.Laid.{Laid, nothing_laid, then_laid, open_laid, join_laid, put_laid, put_all}
+use Rattle.md_text.specs.Marks.{Put, plain_span, styled_span}
+use Rattle.md_text.specs.Laid.{Laid, nothing_laid, then_laid, open_laid, gap_laid, join_laid, put_laid, put_all, with_due}
 
 -- a text's first line joins, and each later one opens a line
 abbrev pub begin_line : Bool → Environment → Spacing → Laid
@@ -38,6 +38,11 @@ soft_break spacing = put_laid spacing (plain_span (codes " "))
 abbrev pub hard_break : Environment → Spacing → Laid
 hard_break env spacing = open_laid env spacing
 
+-- Task mark: Put a box and a blank, plain; a fresh marker stays fresh
+abbrev pub task_mark : Spacing → Bool → Laid
+task_mark spacing is_done =
+    record { marks = Put (plain_span (if is_done then codes "[x] " else codes "[ ] ")) ∷ []; after = spacing }
+
 -- Code: Join, and Put in the style of code alone
 abbrev pub code : Sheet → Environment → Spacing → List ℕ → Laid
 code sheet env spacing bytes =
@@ -50,12 +55,21 @@ link_spans sheet dest = plain_span (codes " (") ∷ styled_span dest sheet.link 
 abbrev pub link_end : Sheet → Spacing → List ℕ → Laid
 link_end sheet spacing dest = put_all spacing (link_spans sheet dest)
 
+-- Rule: Gap, Open, three dashes, plain, and a line is due
+abbrev pub rule : Environment → Spacing → Laid
+rule env spacing =
+    then_laid (gap_laid env spacing) (λ gapped.
+    then_laid (open_laid env gapped) (λ opened.
+    then_laid (put_laid opened (plain_span (codes "---"))) (λ ruled. nothing_laid (with_due true ruled))))
+
 -- a leaf in lines; those without a row as yet are laid out as nothing
 abbrev pub line_leaf : Sheet → Environment → Spacing → Event → Laid
 line_leaf sheet env spacing (event.Text bytes) = text env spacing bytes
 line_leaf sheet env spacing (event.Code bytes) = code sheet env spacing bytes
 line_leaf sheet env spacing event.SoftBreak = soft_break spacing
 line_leaf sheet env spacing event.HardBreak = hard_break env spacing
+line_leaf sheet env spacing event.Rule = rule env spacing
+line_leaf sheet env spacing (event.TaskListMarker is_done) = task_mark spacing is_done
 line_leaf sheet env spacing _ = nothing_laid spacing
 
 -- the content of a block of code is laid out as a whole behind it, and its leaves are nothing by themselves

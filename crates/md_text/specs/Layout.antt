@@ -8,7 +8,7 @@ use Rattle.md_text.specs.declared.environment.Spacing.{Spacing}
 use Rattle.md_text.specs.Marks.{draws}
 use Rattle.md_text.specs.Laid.{Laid, nothing_laid, then_laid}
 use Rattle.md_text.specs.Look.{Look}
-use Rattle.md_text.specs.Environment.{first_environment, first_spacing, environment_inside}
+use Rattle.md_text.specs.Environment.{first_environment, first_spacing, environment_inside, environment_after}
 use Rattle.md_text.specs.Texts.{texts}
 use Rattle.md_text.specs.Blocks.{enter, leave}
 use Rattle.md_text.specs.Inlines.{leaf}
@@ -19,13 +19,13 @@ branch look env spacing tag inside content =
     then_laid (enter look.sheet env spacing tag) (λ entered.
     then_laid (inside entered) (λ behind. leave look env behind tag content))
 
--- the environment is only handed down: what follows an element has the environment from before it
+-- the environment is only handed down: what follows an element has the environment from before it, with a list's next number
 abbrev pub layout : Look → Environment → Spacing → Nodes → Laid
 layout look env spacing Empty = nothing_laid spacing
 layout look env spacing (Leaf e rest) = then_laid (leaf look.sheet env spacing e) (λ behind. layout look env behind rest)
 layout look env spacing (Branch tag inside rest) =
-    then_laid (branch look env spacing tag (λ entered. layout look (environment_inside look.sheet env tag) entered inside) (texts inside))
-    (λ behind. layout look env behind rest)
+    then_laid (branch look env spacing tag (λ entered. layout look (environment_inside look.sheet env tag inside) entered inside) (texts inside))
+    (λ behind. layout look (environment_after env tag) behind rest)
 
 -- the layout of a document
 abbrev pub document_layout : Look → Nodes → Laid

@@ -1,7 +1,10 @@
 pub mod Marks
 pub mod Laid
 pub mod Look
+pub mod Alerts
+pub mod Markers
 pub mod Environment
+pub mod Containers
 pub mod Headings
 pub mod Words
 pub mod Texts

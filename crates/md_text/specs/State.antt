@@ -1,9 +1,12 @@
 -- The machine that lays out a tree from its events, one by one.
-use Rattle.std.specs.Prelude.{ℕ, List, [], ◌∷◌, ◌++◌}
+use Rattle.std.specs.Prelude.{ℕ, ◌+◌, List, [], ◌∷◌, ◌++◌}
 use Rattle.term_text.specs.Text.{LineView}
 use Rattle.md_tree.specs.declared.event.Event.{Event}
 use Rattle.md_tree.specs.declared.event.Event.TheVariants as event
 use Rattle.md_tree.specs.declared.event.Tag.{Tag}
+use Rattle.md_tree.specs.declared.event.Tag.TheVariants as tag
+use Rattle.md_tree.specs.Tree.{Empty}
+use Rattle.md_table.specs.Sheet.{Sheet}
 use Rattle.md_text.specs.declared.environment.Environment.{Environment}
 use Rattle.md_text.specs.declared.environment.Spacing.{Spacing}
 use Rattle.md_text.specs.declared.environment.Within.{Within}
@@ -11,7 +14,7 @@ use Rattle.md_text.specs.declared.environment.Within.TheVariants.{Lines, Code}
 use Rattle.md_text.specs.Marks.{draws}
 use Rattle.md_text.specs.Laid.{Laid}
 use Rattle.md_text.specs.Look.{Look}
-use Rattle.md_text.specs.Environment.{first_environment, first_spacing, environment_inside}
+use Rattle.md_text.specs.Environment.{first_environment, first_spacing, environment_inside, environment_after}
 use Rattle.md_text.specs.Texts.{leaf_text}
 use Rattle.md_text.specs.Blocks.{enter, leave}
 use Rattle.md_text.specs.Inlines.{leaf}
@@ -48,38 +51,56 @@ laid state new =
       lines = draws state.lines new.marks;
     }
 
--- an element starts: what it lays out before its inside, and it is kept for its end
-abbrev pub started : Look → State → Tag → State
-started look state tag =
-    let entered = enter look.sheet state.environment state.spacing tag in
+-- an element starts: what it lays out before its inside, and it is kept for its end; nothing inside it is known yet
+abbrev pub started : Sheet → State → Tag → State
+started sheet state tag =
+    let entered = enter sheet state.environment state.spacing tag in
     record {
       open_elements = record { tag = tag; environment = state.environment } ∷ state.open_elements;
-      environment = environment_inside look.sheet state.environment tag;
+      environment = environment_inside sheet state.environment tag Empty;
       spacing = entered.after;
       content = state.content;
       lines = draws state.lines entered.marks;
     }
 
+-- the environment behind an element that was begun; a task mark in a paragraph has told the width of the item round it
+abbrev pub restored_from : Environment → Tag → Environment → Environment
+restored_from outer tag.Paragraph inner = record outer { item_width = inner.item_width }
+restored_from outer t inner = environment_after outer t
+
+abbrev pub restored : Begun → Environment → Environment
+restored element inner = restored_from element.environment element.tag inner
+
 -- an element ends, in the environment from before it
 abbrev pub ended_from : Look → State → List Begun → State
 ended_from look state [] = state
 ended_from look state (element ∷ outer) =
-    laid (record state { open_elements = outer; environment = element.environment; content = [] })
-    (leave look element.environment state.spacing element.tag state.content)
+    let env = restored element state.environment in
+    laid (record state { open_elements = outer; environment = env; content = [] })
+    (leave look env state.spacing element.tag state.content)
 
 abbrev pub ended : Look → State → State
 ended look state = ended_from look state state.open_elements
 
+-- a task mark makes its item wider
+abbrev pub environment_behind : Environment → Event → Environment
+environment_behind env (event.TaskListMarker is_done) = record env { item_width = env.item_width + 4 }
+environment_behind env e = env
+
 -- a leaf is laid out, or is content
-abbrev pub leaf_step : Look → State → Event → State
-leaf_step look state e =
-    laid (record state { content = content_within state.environment.within state.content e })
-    (leaf look.sheet state.environment state.spacing e)
+abbrev pub leaf_step : Sheet → State → Event → State
+leaf_step sheet state e =
+    laid
+    (record state {
+      environment = environment_behind state.environment e;
+      content = content_within state.environment.within state.content e;
+    })
+    (leaf sheet state.environment state.spacing e)
 
 abbrev pub step : Look → State → Event → State
-step look state (event.Start tag) = started look state tag
+step look state (event.Start tag) = started look.sheet state tag
 step look state (event.End end) = ended look state
-step look state e = leaf_step look state e
+step look state e = leaf_step look.sheet state e
 
 -- the events, one after another
 abbrev pub run : Look → List Event → State → State

@@ -1,9 +1,14 @@
 // What the layout hands down into elements, and what it passes along.
-ghost use Rattle.std.specs.Prelude.{◌≡◌};
-ghost use Rattle.md_text.specs.Environment.{first_environment, first_spacing, styled, environment_inside};
+ghost use Rattle.std.specs.Prelude.{◌≡◌, ◌+◌, IfOk};
+ghost use Rattle.md_tree.specs.Tree.{Empty};
+ghost use Rattle.md_text.specs.Alerts.{alert_of};
+ghost use Rattle.md_text.specs.Environment.{first_environment, first_spacing, styled, quote_style, environment_inside};
+ghost use Rattle.md_text.specs.State.{restored_from, environment_behind};
 
-use md_events::Tag;
-use md_table::StyleSheet;
+use crate::marker::{marker_width, number_after};
+use md_events::{BlockQuoteKind, Event, Tag};
+use md_table::{AlertKind, StyleSheet};
+use std::alloc::{AllocError, Global};
 use term_text::Style;
 
 /// What leaves stand in.
@@ -23,6 +28,12 @@ pub struct Environment {
     /// The style under a whole line.
     pub line_style: Style,
     pub inline_style: Style,
+    /// The number of open lists.
+    pub depth: usize,
+    /// The number of the innermost list's next item, if its items have numbers.
+    pub number: Option<u64>,
+    /// The number of columns of the innermost item's marker and task mark; 0 outside items.
+    pub item_width: usize,
     pub within: Within,
 }
 
@@ -53,15 +64,37 @@ impl Environment {
             quotes: 0,
             line_style: Style::new(),
             inline_style: Style::new(),
+            depth: 0,
+            number: None,
+            item_width: 0,
             within: Within::Lines,
         }
     }
 
-    /// The environment inside an element.
-    pub fn inside<S: StyleSheet>(self, sheet: &S, tag: &Tag) -> Environment
-        ensures { result ≡ environment_inside (S.sheet sheet.now) self tag.now }
+    /// The environment inside an element of which nothing inside is known yet, or want of memory where a number is too large.
+    pub fn inside<S: StyleSheet>(
+        self,
+        alloc: Global,
+        sheet: &S,
+        tag: &Tag,
+    ) -> Result<Environment, AllocError>
+        ensures { IfOk result (λ env. env ≡ environment_inside (S.sheet sheet.now) self tag.now Empty) }
     {
-        match tag {
+        Ok(match tag {
+            Tag::BlockQuote(kind) => Environment {
+                quotes: one_more(self.quotes)?,
+                line_style: quote_style(sheet, *kind),
+                ..self
+            },
+            Tag::List(start) => Environment {
+                depth: one_more(self.depth)?,
+                number: *start,
+                ..self
+            },
+            Tag::Item => Environment {
+                item_width: marker_width(alloc, self.depth, self.number)?,
+                ..self
+            },
             Tag::Emphasis => self.styled(Style::new().italic()),
             Tag::Strong => self.styled(Style::new().bold()),
             Tag::Strikethrough => self.styled(Style::new().crossed_out()),
@@ -72,6 +105,37 @@ impl Environment {
                 ..self
             },
             _ => self,
+        })
+    }
+
+    /// The environment behind an element that was begun in this one, by that at its end. A task mark in a paragraph has told
+    /// the width of the item round it.
+    pub fn restored(self, tag: &Tag, inner: Environment) -> Environment
+        ensures { result ≡ restored_from self tag.now inner }
+    {
+        match tag {
+            Tag::Paragraph => Environment {
+                item_width: inner.item_width,
+                ..self
+            },
+            Tag::Item => Environment {
+                number: number_after(self.number),
+                ..self
+            },
+            _ => self,
+        }
+    }
+
+    /// The environment behind a leaf, or want of memory where a number is too large. A task mark makes its item wider.
+    pub fn behind(self, leaf: &Event) -> Result<Environment, AllocError>
+        ensures { IfOk result (λ env. env ≡ environment_behind self leaf.now) }
+    {
+        match leaf {
+            Event::TaskListMarker(_) => match self.item_width.checked_add(4) {
+                Some(item_width) => Ok(Environment { item_width, ..self }),
+                None => Err(AllocError),
+            },
+            _ => Ok(self),
         }
     }
 
@@ -96,5 +160,37 @@ impl Spacing {
             fresh: Fresh::No,
             any_line: false,
         }
+    }
+}
+
+/// The kind of alert that a quote is.
+pub fn alert_of(kind: BlockQuoteKind) -> AlertKind
+    ensures { result ≡ alert_of kind }
+{
+    match kind {
+        BlockQuoteKind::Note => AlertKind::Note,
+        BlockQuoteKind::Tip => AlertKind::Tip,
+        BlockQuoteKind::Important => AlertKind::Important,
+        BlockQuoteKind::Warning => AlertKind::Warning,
+        BlockQuoteKind::Caution => AlertKind::Caution,
+    }
+}
+
+fn quote_style<S: StyleSheet>(sheet: &S, kind: Option<BlockQuoteKind>) -> Style
+    ensures { result ≡ quote_style (S.sheet sheet.now) kind }
+{
+    match kind {
+        None => sheet.blockquote(),
+        Some(kind) => sheet.alert(alert_of(kind)),
+    }
+}
+
+/// One more than a count; what can't be counted finds no memory either.
+pub fn one_more(count: usize) -> Result<usize, AllocError>
+    ensures { IfOk result (λ more. more ≡ count + 1) }
+{
+    match count.checked_add(1) {
+        Some(more) => Ok(more),
+        None => Err(AllocError),
     }
 }

@@ -1,11 +1,16 @@
 //! Laws of layouts.
 
 ghost use Rattle.std.specs.Prelude.{◌≡◌, true};
-ghost use Rattle.md_tree.specs.Tree.{Nodes};
+ghost use Rattle.md_tree.specs.declared.event.Tag.{Tag};
+ghost use Rattle.md_tree.specs.Tree.{Nodes, Empty, Branch};
 ghost use Rattle.md_tree.specs.Good.{good};
 ghost use Rattle.md_text.specs.Look.{Look};
 ghost use Rattle.md_text.specs.Marks.{begins_line};
-ghost use Rattle.md_text.specs.Layout.{document_layout};
+ghost use Rattle.md_text.specs.declared.environment.Environment.{Environment};
+ghost use Rattle.md_text.specs.declared.environment.Spacing.{Spacing};
+ghost use Rattle.md_text.specs.Environment.{environment_after};
+ghost use Rattle.md_text.specs.Laid.{then_laid};
+ghost use Rattle.md_text.specs.Layout.{layout, document_layout};
 ghost use Rattle.md_text.specs.Pieces.{puts, document_pieces};
 
 /// The spans that a good tree's layout puts are the tree's pieces, each whole, once and in order.
@@ -16,4 +21,14 @@ pub fn puts_are_the_pieces()
 /// The first mark of a good tree's layout, if there is one, begins a line.
 pub fn first_mark_begins_a_line()
     ensures { (look : Look) (t : Nodes) → good t ≡ true → begins_line (document_layout look t).marks ≡ true }
+{}
+
+/// What follows an element is laid out in the environment from before it, and in the spacing state behind it, whatever
+/// stands inside. So styles, line styles, quote marks, list depths and item widths end with their element; only a list's
+/// next number is told by its items.
+pub fn an_environment_ends_with_its_element()
+    ensures follows { (look : Look) (env : Environment) (spacing : Spacing) (tag : Tag) (inside rest : Nodes) →
+        layout look env spacing (Branch tag inside rest)
+        ≡ then_laid (layout look env spacing (Branch tag inside Empty)) (λ behind. layout look (environment_after env tag) behind rest) }
+    ensures kept { (env : Environment) (tag : Tag) → environment_after env tag ≡ record env { number = (environment_after env tag).number } }
 {}

@@ -7,6 +7,7 @@ mod frame;
 mod highlight;
 pub mod laws;
 mod machine;
+mod marker;
 mod options;
 mod render;
 #[cfg(test)]

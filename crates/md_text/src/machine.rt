@@ -12,6 +12,7 @@ use term_text::{CowStr, Line, Span, Stack, Style, Text};
 
 mod blocks;
 mod code;
+mod containers;
 mod headings;
 mod inlines;
 mod walk;

@@ -1,9 +1,11 @@
 use crate::render::laid_out;
 use crate::{
-    AnsiFence, CustomSheet, DefaultStyleSheet, Highlighter, NoHighlight, Options, RenderError,
-    StyleSheet, from_str, from_str_with_options,
+    AlertKind, AnsiFence, CustomSheet, DefaultStyleSheet, Highlighter, NoHighlight, Options,
+    RenderError, StyleSheet, from_str, from_str_with_options,
 };
-use md_events::{Attrs, Classes, CodeBlockKind, Event, HeadingLevel, Tag, TagEnd, built};
+use md_events::{
+    Attrs, BlockQuoteKind, Classes, CodeBlockKind, Event, HeadingLevel, Tag, TagEnd, built,
+};
 use std::alloc::{AllocError, Global};
 use std::test::Fail;
 use term_text::{CowStr, Line, Style, Text};
@@ -25,6 +27,11 @@ fn style_name(style: Style) -> &'static str {
         (plain.dim().italic(), "<script>"),
         (plain.italic().bold(), "<bold italic>"),
         (sheet.link().bold(), "<bold link>"),
+        (sheet.blockquote(), "<quote>"),
+        (sheet.alert(AlertKind::Note), "<note>"),
+        (sheet.alert(AlertKind::Note).bold(), "<bold note>"),
+        (sheet.heading(1).patch(sheet.blockquote()), "<h1 quote>"),
+        (sheet.list_marker(), "<marker>"),
         (Style::reset(), "<reset>"),
         (plain.red(), "<red>"),
         (Style::reset().red(), "<reset red>"),
@@ -311,6 +318,216 @@ fn a_highlighter_of_ones_own_is_asked_for_each_line(rt: HostRuntime) -> Result<(
         let drawn = drawn(rt.alloc(), &text)?;
         assert_eq!(rt; drawn.as_str(), want, "{info}");
     }
+    Ok(())
+}
+
+// The events of the start and of the end of an element.
+fn start(tag: Tag<'static>) -> Event<'static> {
+    Event::Start(tag)
+}
+
+fn end(tag: Tag<'static>) -> Event<'static> {
+    Event::End(tag.end())
+}
+
+fn quote() -> Tag<'static> {
+    Tag::BlockQuote(None)
+}
+
+#[test]
+fn quotes_have_a_mark_for_each_level_on_empty_lines_too(rt: HostRuntime) -> Result<(), Fail> {
+    let events = [
+        start(quote()),
+        start(Tag::Paragraph),
+        text("a"),
+        end(Tag::Paragraph),
+        start(quote()),
+        start(Tag::Paragraph),
+        text("b"),
+        end(Tag::Paragraph),
+        end(quote()),
+        start(heading(rt.alloc(), HeadingLevel::H1)),
+        text("c"),
+        end(heading(rt.alloc(), HeadingLevel::H1)),
+        end(quote()),
+        start(Tag::Paragraph),
+        text("d"),
+        end(Tag::Paragraph),
+    ];
+    let drawn = drawn_events(rt.alloc(), &events)?;
+    assert_eq!(rt;
+        drawn.as_str(),
+        "<quote>|>| |a|\n<quote>|>| |\n<quote>|>|>| |b|\n<quote>|>| |\n<h1 quote>|>| |# |c|\n|\n|d|\n"
+    );
+    Ok(())
+}
+
+#[test]
+fn an_empty_quote_is_followed_by_an_empty_line(rt: HostRuntime) -> Result<(), Fail> {
+    let events = [
+        start(quote()),
+        end(quote()),
+        start(Tag::Paragraph),
+        text("a"),
+        end(Tag::Paragraph),
+    ];
+    let drawn = drawn_events(rt.alloc(), &events)?;
+    assert_eq!(rt; drawn.as_str(), "|\n|a|\n");
+    Ok(())
+}
+
+// An alert of two paragraphs.
+fn alert_events(alloc: Global) -> Result<Vec<Event<'static>>, AllocError> {
+    let alert = Tag::BlockQuote(Some(BlockQuoteKind::Note));
+    let alert_end = alert.end();
+    Ok(Vec::from_array(
+        alloc,
+        [
+            start(alert),
+            start(Tag::Paragraph),
+            text("a"),
+            end(Tag::Paragraph),
+            start(Tag::Paragraph),
+            text("b"),
+            end(Tag::Paragraph),
+            Event::End(alert_end),
+        ],
+    )?)
+}
+
+#[test]
+fn an_alert_begins_with_its_icon_and_label(rt: HostRuntime) -> Result<(), Fail> {
+    let events = alert_events(rt.alloc())?;
+    let default = CustomSheet::default();
+    let rows = [
+        (default, "\u{2139}\u{FE0F} Note"),
+        (default.with_alert_icon(AlertKind::Note, ""), "Note"),
+        (
+            default.with_alert_label(AlertKind::Note, ""),
+            "\u{2139}\u{FE0F}",
+        ),
+    ];
+    for (sheet, title) in rows {
+        let text = laid_out(
+            rt.alloc(),
+            events.as_slice(),
+            &Options::new(sheet),
+            &NoHighlight,
+        )?;
+        let drawn = drawn(rt.alloc(), &text)?;
+        let want = format!(in rt.alloc();
+            "<note>|>| |{title}<bold note>|\n<note>|>| |a|\n<note>|>| |\n<note>|>| |b|\n"
+        )?;
+        assert_eq!(rt; drawn.as_str(), want.as_str());
+    }
+    Ok(())
+}
+
+#[test]
+fn numbers_go_up_and_are_right_aligned(rt: HostRuntime) -> Result<(), Fail> {
+    let events = [
+        start(Tag::List(Some(3))),
+        start(Tag::Item),
+        text("a"),
+        start(Tag::List(Some(9))),
+        start(Tag::Item),
+        text("b"),
+        end(Tag::Item),
+        start(Tag::Item),
+        text("c"),
+        end(Tag::Item),
+        end(Tag::List(Some(9))),
+        end(Tag::Item),
+        start(Tag::Item),
+        start(Tag::List(None)),
+        start(Tag::Item),
+        text("d"),
+        end(Tag::Item),
+        end(Tag::List(None)),
+        end(Tag::Item),
+        end(Tag::List(Some(3))),
+        start(Tag::List(None)),
+        start(Tag::Item),
+        end(Tag::Item),
+        end(Tag::List(None)),
+        Event::Rule,
+    ];
+    let drawn = drawn_events(rt.alloc(), &events)?;
+    assert_eq!(rt;
+        drawn.as_str(),
+        "|3. <marker>|a|\n|    9. <marker>|b|\n|   10. <marker>|c|\n|4. <marker>|\n|    - |d|\n|\n|- |\n|\n|---|\n"
+    );
+    Ok(())
+}
+
+#[test]
+fn only_what_may_stand_behind_a_marker_does(rt: HostRuntime) -> Result<(), Fail> {
+    let events = [
+        start(Tag::List(None)),
+        start(Tag::Item),
+        start(Tag::Paragraph),
+        Event::TaskListMarker(true),
+        text("a"),
+        end(Tag::Paragraph),
+        start(Tag::Paragraph),
+        text("b"),
+        end(Tag::Paragraph),
+        end(Tag::Item),
+        start(Tag::Item),
+        Event::TaskListMarker(false),
+        start(Tag::Paragraph),
+        text("c"),
+        end(Tag::Paragraph),
+        end(Tag::Item),
+        start(Tag::Item),
+        start(quote()),
+        start(Tag::Paragraph),
+        text("d"),
+        end(Tag::Paragraph),
+        start(Tag::Paragraph),
+        text("e"),
+        end(Tag::Paragraph),
+        end(quote()),
+        end(Tag::Item),
+        start(Tag::Item),
+        start(heading(rt.alloc(), HeadingLevel::H2)),
+        text("f"),
+        end(heading(rt.alloc(), HeadingLevel::H2)),
+        end(Tag::Item),
+        end(Tag::List(None)),
+    ];
+    let drawn = drawn_events(rt.alloc(), &events)?;
+    assert_eq!(rt;
+        drawn.as_str(),
+        "|- |[x] |a|\n|\n|b|\n|- |[ ] |c|\n|- |d|\n<quote>|>| |\n<quote>|>| |e|\n|- |\n<h2>|## |f|\n"
+    );
+    Ok(())
+}
+
+#[test]
+fn coloured_code_in_a_quote_has_marks_on_its_fence_lines_alone(
+    rt: HostRuntime,
+) -> Result<(), Fail> {
+    let events = [
+        start(quote()),
+        start(Tag::CodeBlock(fenced("ansi"))),
+        text("a\n"),
+        end(Tag::CodeBlock(fenced("ansi"))),
+        end(quote()),
+    ];
+    let options = Options::default();
+    let coloured = laid_out(rt.alloc(), &events, &options, &AnsiFence)?;
+    let coloured = drawn(rt.alloc(), &coloured)?;
+    assert_eq!(rt;
+        coloured.as_str(),
+        "<quote>|>| |```ansi|\n|a|\n<quote>|>| |```|\n"
+    );
+    let plain = laid_out(rt.alloc(), &events, &options, &NoHighlight)?;
+    let plain = drawn(rt.alloc(), &plain)?;
+    assert_eq!(rt;
+        plain.as_str(),
+        "<code>|>| |```ansi|\n<code>|>| |a|\n<code>|>| |```|\n"
+    );
     Ok(())
 }
 

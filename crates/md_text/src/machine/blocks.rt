@@ -24,9 +24,11 @@ impl<'e, 'a> Machine<'e, 'a> {
     {
         match tag {
             Tag::Heading { level, .. } => self.heading(sheet, *level),
+            Tag::BlockQuote(kind) => self.quote(sheet, *kind),
+            Tag::List(_) => self.list(),
+            Tag::Item => self.item(sheet),
             Tag::Paragraph
             | Tag::HtmlBlock
-            | Tag::Item
             | Tag::DefinitionListTitle
             | Tag::DefinitionListDefinition
             | Tag::TableCell
@@ -70,8 +72,9 @@ impl<'e, 'a> Machine<'e, 'a> {
             Tag::Link { dest_url } => self.link_end(options.styles(), dest_url),
             Tag::CodeBlock(kind) => self.code_block(options, highlighter, kind, content),
             Tag::Paragraph
+            | Tag::BlockQuote(_)
             | Tag::HtmlBlock
-            | Tag::Item
+            | Tag::List(_)
             | Tag::DefinitionListTitle
             | Tag::DefinitionListDefinition
             | Tag::TableCell

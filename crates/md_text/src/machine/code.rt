@@ -58,7 +58,7 @@ impl<'e, 'a> Machine<'e, 'a> {
             ≡ laid self.old (fenced_lines (look_of options.now S.sheet (H.known highlighter.now) (H.answer highlighter.now)) self.old.environment self.old.spacing kind.now content.now)) }
     {
         self.fence(options.styles(), info(kind))?;
-        self.code_lines(options, highlighter, kind, content)?;
+        self.code_lines(highlighter, kind, content)?;
         self.fence(options.styles(), "")?;
         Ok(())
     }
@@ -78,33 +78,31 @@ impl<'e, 'a> Machine<'e, 'a> {
         self.put(Span::raw(CowStr::owned(line)))
     }
 
-    fn code_lines<S: StyleSheet, H: Highlighter>(
+    fn code_lines<H: Highlighter>(
         &mut self,
-        _options: &Options<S>,
         highlighter: &H,
         kind: &CodeBlockKind<'a>,
         content: &str,
     ) -> Result<(), AllocError>
         ensures { OnOk result (self.new
-            ≡ laid self.old (code_lines (look_of _options.now S.sheet (H.known highlighter.now) (H.answer highlighter.now)) self.old.environment self.old.spacing kind.now (lines content.now))) }
+            ≡ laid self.old (code_lines (H.known highlighter.now) (H.answer highlighter.now) self.old.environment self.old.spacing kind.now (lines content.now))) }
     {
-        if recognised(_options, highlighter, kind) {
-            self.answered_lines(_options, highlighter, info(kind), content)
+        if recognised(highlighter, kind) {
+            self.answered_lines(highlighter, info(kind), content)
         } else {
             self.copied_lines(false, content)
         }
     }
 
     /// What the highlighter answers for each line.
-    fn answered_lines<S: StyleSheet, H: Highlighter>(
+    fn answered_lines<H: Highlighter>(
         &mut self,
-        _options: &Options<S>,
         highlighter: &H,
         lang: &str,
         content: &str,
     ) -> Result<(), AllocError>
         ensures { OnOk result (self.new
-            ≡ laid self.old (each_laid (answered_line (look_of _options.now S.sheet (H.known highlighter.now) (H.answer highlighter.now)) lang.now) self.old.spacing (lines content.now))) }
+            ≡ laid self.old (each_laid (answered_line (H.answer highlighter.now) lang.now) self.old.spacing (lines content.now))) }
     {
         for line in content.lines() {
             let answer = highlighter.line(self.alloc, lang, line)?;
@@ -174,12 +172,8 @@ fn info<'s>(kind: &'s CodeBlockKind) -> &'s str
     }
 }
 
-fn recognised<S: StyleSheet, H: Highlighter>(
-    _options: &Options<S>,
-    highlighter: &H,
-    kind: &CodeBlockKind,
-) -> bool
-    ensures { result ≡ recognised (look_of _options.now S.sheet (H.known highlighter.now) (H.answer highlighter.now)) kind.now }
+fn recognised<H: Highlighter>(highlighter: &H, kind: &CodeBlockKind) -> bool
+    ensures { result ≡ recognised (H.known highlighter.now) kind.now }
 {
     match kind {
         CodeBlockKind::Indented => false,
@@ -195,7 +189,7 @@ fn code_environment<S: StyleSheet, H: Highlighter>(
 ) -> Environment
     ensures { result ≡ code_environment (look_of options.now S.sheet (H.known highlighter.now) (H.answer highlighter.now)) environment kind.now }
 {
-    if recognised(options, highlighter, kind) {
+    if recognised(highlighter, kind) {
         return environment;
     }
     Environment {

@@ -1,6 +1,6 @@
 // What inlines lay out.
 ghost use Rattle.std.specs.Prelude.{◌≡◌, OnOk};
-ghost use Rattle.md_text.specs.Inlines.{begin_line, text_line, text, code, soft_break, link_end, text_lines, line_leaf};
+ghost use Rattle.md_text.specs.Inlines.{begin_line, text_line, text, code, soft_break, rule, task_mark, link_end, text_lines, line_leaf};
 ghost use Rattle.md_text.specs.State.{laid};
 ghost use Rattle.std.specs.Str.Lines.{lines};
 
@@ -25,6 +25,8 @@ impl<'e, 'a> Machine<'e, 'a> {
             Event::Code(content) => self.code(sheet, content),
             Event::SoftBreak => self.soft_break(),
             Event::HardBreak => self.open(),
+            Event::Rule => self.rule(),
+            Event::TaskListMarker(is_done) => self.task_mark(*is_done),
             _ => Ok(()),
         }
     }
@@ -89,6 +91,27 @@ impl<'e, 'a> Machine<'e, 'a> {
         ensures { OnOk result (self.new ≡ laid self.old (soft_break self.old.spacing)) }
     {
         self.put(Span::raw(CowStr::borrowed(" ")))
+    }
+
+    fn rule(&mut self) -> Result<(), AllocError>
+        ensures { OnOk result (self.new ≡ laid self.old (rule self.old.environment self.old.spacing)) }
+    {
+        self.gap()?;
+        self.open()?;
+        self.put(Span::raw(CowStr::borrowed("---")))?;
+        self.spacing.due = true;
+        Ok(())
+    }
+
+    /// A task mark leaves a fresh marker fresh.
+    fn task_mark(&mut self, is_done: bool) -> Result<(), AllocError>
+        ensures { OnOk result (self.new ≡ laid self.old (task_mark self.old.spacing is_done)) }
+    {
+        let fresh = self.spacing.fresh;
+        let text = if is_done { "[x] " } else { "[ ] " };
+        self.put(Span::raw(CowStr::borrowed(text)))?;
+        self.spacing.fresh = fresh;
+        Ok(())
     }
 
     /// A link's destination in parentheses.

@@ -41,44 +41,34 @@ impl<'e, 'a> Machine<'e, 'a> {
             ≡ step (look_of options.now S.sheet (H.known highlighter.now) (H.answer highlighter.now)) self.old event.now) }
     {
         match event {
-            Event::Start(tag) => self.start(options, highlighter, tag),
+            Event::Start(tag) => self.start(options.styles(), tag),
             Event::End(_) => self.end(options, highlighter),
-            leaf => self.leaf_step(options, highlighter, leaf),
+            leaf => self.leaf_step(options.styles(), leaf),
         }
     }
 
-    fn start<S: StyleSheet, H: Highlighter>(
-        &mut self,
-        options: &Options<S>,
-        _highlighter: &H,
-        tag: &'e Tag<'a>,
-    ) -> Result<(), AllocError>
-        ensures { OnOk result (self.new
-            ≡ started (look_of options.now S.sheet (H.known _highlighter.now) (H.answer _highlighter.now)) self.old tag.now) }
+    fn start<S: StyleSheet>(&mut self, sheet: &S, tag: &'e Tag<'a>) -> Result<(), AllocError>
+        ensures { OnOk result (self.new ≡ started (S.sheet sheet.now) self.old tag.now) }
     {
-        self.enter(options.styles(), tag)?;
+        self.enter(sheet, tag)?;
         self.frames.push(Frame {
             tag,
             environment: self.environment,
         })?;
-        self.environment = self.environment.inside(options.styles(), tag);
+        self.environment = self.environment.inside(self.alloc, sheet, tag)?;
         Ok(())
     }
 
     /// A leaf is laid out, or is content of the open block of code.
-    fn leaf_step<S: StyleSheet, H: Highlighter>(
-        &mut self,
-        options: &Options<S>,
-        _highlighter: &H,
-        leaf: &Event<'a>,
-    ) -> Result<(), AllocError>
-        ensures { OnOk result (self.new
-            ≡ leaf_step (look_of options.now S.sheet (H.known _highlighter.now) (H.answer _highlighter.now)) self.old leaf.now) }
+    fn leaf_step<S: StyleSheet>(&mut self, sheet: &S, leaf: &Event<'a>) -> Result<(), AllocError>
+        ensures { OnOk result (self.new ≡ leaf_step (S.sheet sheet.now) self.old leaf.now) }
     {
         match self.environment.within {
-            Within::Lines => self.line_leaf(options.styles(), leaf),
-            Within::Code => self.keep(leaf),
+            Within::Lines => self.line_leaf(sheet, leaf)?,
+            Within::Code => self.keep(leaf)?,
         }
+        self.environment = self.environment.behind(leaf)?;
+        Ok(())
     }
 
     /// The text of a leaf is content.
@@ -103,7 +93,7 @@ impl<'e, 'a> Machine<'e, 'a> {
         match self.frames.pop() {
             None => Ok(()),
             Some(frame) => {
-                self.environment = frame.environment;
+                self.environment = frame.environment.restored(frame.tag, self.environment);
                 let content = mem::replace(&mut self.content, String::new(self.alloc));
                 self.leave(options, highlighter, frame.tag, content.as_str())
             }

@@ -3,7 +3,6 @@ use Rattle.std.proofs.lemmas.List.{length_push}
 use Rattle.std.proofs.lemmas.Iterator.Splits.{YieldsList-from_lines}
 use Rattle.std.proofs.lemmas.Iterator.Consumers.{YieldsList-turn, YieldsList-end}
 use Rattle.std.specs.Str.Lines.{lines}
-use Rattle.md_text.specs.Look.{look_of}
 use Rattle.md_text.specs.Code.{answered_line, coloured_text}
 use Rattle.md_text.specs.State.{State, laid}
 use Rattle.md_text.proofs.Each.{each_left, each_left-one, each_left-end}
@@ -11,8 +10,7 @@ use Rattle.md_text.proofs.machine.Machine.answered_lines.Goals as goal
 
 pub loop-line-preserved : goal.loop-line-preserved
 loop-line-preserved g c =
-    let look = look_of c.args._options.now g.S.StyleSheet.sheet (g.H.Highlighter.known c.args.highlighter.now) (g.H.Highlighter.answer c.args.highlighter.now) in
-    let one = answered_line look c.args.lang.now in
+    let one = answered_line (g.H.Highlighter.answer c.args.highlighter.now) c.args.lang.now in
     let all = lines c.args.content.now in
     let t = YieldsList-turn (YieldsList-from_lines c.args.content.now cc) c.loop-line.yielded _ c.loop-line.yielded_by _ _ c.in-Some.line c.in-Some.is c.next.ensures.steps in
     ap (λ (s : State). each_left one s (drop (length (c.loop-line.yielded ++ c.in-Some.line ∷ [])) all)) (c.in_ok-coloured_text.ensures
@@ -22,7 +20,6 @@ loop-line-preserved g c =
 
 pub returns : goal.returns
 returns g c =
-    let look = look_of c.args._options.now g.S.StyleSheet.sheet (g.H.Highlighter.known c.args.highlighter.now) (g.H.Highlighter.answer c.args.highlighter.now) in
     let all = lines c.args.content.now in
     let t = YieldsList-end (YieldsList-from_lines c.args.content.now cc) c.loop-line.yielded _ c.loop-line.yielded_by _ _ c.in-None.is c.next.ensures.steps in
-    each_left-end (answered_line look c.args.lang.now) c.loop-line.self all (length c.loop-line.yielded) t.1 ∙ c.loop-line.invariant
+    each_left-end (answered_line (g.H.Highlighter.answer c.args.highlighter.now) c.args.lang.now) c.loop-line.self all (length c.loop-line.yielded) t.1 ∙ c.loop-line.invariant
