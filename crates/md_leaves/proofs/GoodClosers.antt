@@ -12,7 +12,7 @@ use Rattle.md_leaves.specs.declared.closer.Form.{Form}
 use Rattle.md_leaves.specs.declared.leaf.Kind.TheVariants as kind
 use Rattle.md_leaves.specs.Cuts.{IsText}
 use Rattle.md_leaves.specs.Closers.{at_bar, level_after, empty_front, balanced, plain_length, is_in_angles, is_in_title, is_quote, destination, closing, title, then_closing, ending, closer_to, closer_with, closer}
-use Rattle.md_leaves.proofs.RunLemmas.{prefix_len-holds}
+use Rattle.md_leaves.proofs.RunLemmas.{prefix_len-holds, same_byte}
 use Rattle.md_leaves.proofs.PlaceLemmas.{Clean, Clean-join, Clean-one, Clean-front, IsText-clean, cut-before, cut-behind}
 use Rattle.md_leaves.proofs.GoodCuts.{Good, GoodIfAny}
 
@@ -65,9 +65,6 @@ rest-is source at n = drop-drop n at source
 byte-is : (source : List ℕ) (at k b : ℕ) → slice_index (drop at source) k ≡ b → get_or source (at + k) 0 ≡ b
 byte-is source at k b e = sym (get_or-drop at source k 0) ∙ e
 
-same : (b k : ℕ) → (b == k) ≡ true → b ≡ k
-same b k e = grind (arith, nat_tests)
-
 blank-in-front : (source : List ℕ) (at : ℕ) → 0 < prefix_len is_blank (drop at source) → is_blank (get_or source at 0) ≡ true
 blank-in-front source at some =
     ap (λ k. is_blank (get_or source k 0)) (sym (add-zero at)) ∙ (ap is_blank (sym (get_or-drop at source 0 0)) ∙ prefix_len-holds is_blank (drop at source) 0 some)
@@ -85,7 +82,7 @@ closing-good source at n e = go (slice_index (drop at source) m == 41) refl e
     go : (v : Bool) → (slice_index (drop at source) m == 41) ≡ v → cond v (Some (m + 1)) None ≡ Some n → IsEnding source at n
     go true is e =
         let count : m + 1 ≡ n = cc in
-        let byte : get_or source (at + m) 0 ≡ 41 = byte-is source at m 41 (same (slice_index (drop at source) m) 41 is) in
+        let byte : get_or source (at + m) 0 ≡ 41 = byte-is source at m 41 (same_byte (slice_index (drop at source) m) 41 is) in
         record {
           some = omega arith;
           first = front m refl byte;
@@ -114,7 +111,7 @@ title-good source at n quoted e = go (slice_index (drop at source) (m + 1) == qu
     go true is e =
         let count : m + 2 ≡ n = cc in
         let first : get_or source at 0 ≡ quote = ap (λ k. get_or source k 0) (sym (add-zero at)) ∙ byte-is source at 0 quote refl in
-        let last : get_or source (at + (m + 1)) 0 ≡ quote = byte-is source at (m + 1) quote (same (slice_index (drop at source) (m + 1)) quote is) in
+        let last : get_or source (at + (m + 1)) 0 ≡ quote = byte-is source at (m + 1) quote (same_byte (slice_index (drop at source) (m + 1)) quote is) in
         let inner : Clean source (at + 1) (at + 1 + m) = Clean-front (is_in_title quote) source (at + 1) m inner-plain (let h : m ≡ prefix_len (is_in_title quote) (drop (at + 1) source) = ap (prefix_len (is_in_title quote)) (rest-is source at 1) in omega arith) in
         let there : at + (m + 1) ≡ at + 1 + m = omega arith in
         subst (Clean source at) (let h : at + 1 + m + 1 ≡ at + n = omega arith in h)
@@ -200,8 +197,8 @@ destination-good source at utf8 = go (slice_index (drop at source) 0 == 60) (sli
 
     go : (opens closes : Bool) → (slice_index (drop at source) 0 == 60) ≡ opens → (slice_index (drop at source) (n + 1) == 62) ≡ closes → IsForm source at (unwrap_or (cond (opens && closes) (Some (let form : Form = record { from = 1; to = n + 1; all = n + 2 } in form)) None) (record { from = 0; to = plain; all = plain }))
     go true true o c =
-        let first : get_or source at 0 ≡ 60 = ap (λ k. get_or source k 0) (sym (add-zero at)) ∙ byte-is source at 0 60 (same (slice_index (drop at source) 0) 60 o) in
-        let last : get_or source (at + (n + 1)) 0 ≡ 62 = byte-is source at (n + 1) 62 (same (slice_index (drop at source) (n + 1)) 62 c) in
+        let first : get_or source at 0 ≡ 60 = ap (λ k. get_or source k 0) (sym (add-zero at)) ∙ byte-is source at 0 60 (same_byte (slice_index (drop at source) 0) 60 o) in
+        let last : get_or source (at + (n + 1)) 0 ≡ 62 = byte-is source at (n + 1) 62 (same_byte (slice_index (drop at source) (n + 1)) 62 c) in
         let there : at + (n + 1) ≡ at + 1 + n = omega arith in
         let inner : Clean source (at + 1) (at + 1 + n) = Clean-front is_in_angles source (at + 1) n inner-plain (let h : n ≡ prefix_len is_in_angles (drop (at + 1) source) = ap (prefix_len is_in_angles) (rest-is source at 1) in omega arith) in
         record {
@@ -262,7 +259,7 @@ module _ (source : List ℕ) (at : ℕ) (utf8 : IsUtf8 source) (start : IsCharBo
       before = 1 + m
 
       bracket : (slice_index (drop at source) 0 == 93) ≡ true → get_or source at 0 ≡ 93
-      bracket e = ap (λ k. get_or source k 0) (sym (add-zero at)) ∙ byte-is source at 0 93 (same (slice_index (drop at source) 0) 93 e)
+      bracket e = ap (λ k. get_or source k 0) (sym (add-zero at)) ∙ byte-is source at 0 93 (same_byte (slice_index (drop at source) 0) 93 e)
 
       p : ℕ
       p = at + 1 + before
@@ -271,7 +268,7 @@ module _ (source : List ℕ) (at : ℕ) (utf8 : IsUtf8 source) (start : IsCharBo
       moved = rest-is source at (1 + before) ∙ ap (λ k. drop k source) (let h : at + (1 + before) ≡ p = omega arith in h)
 
       paren : (slice_index (drop at source) 1 == 40) ≡ true → get_or source (at + 1) 0 ≡ 40
-      paren e = byte-is source at 1 40 (same (slice_index (drop at source) 1) 40 e)
+      paren e = byte-is source at 1 40 (same_byte (slice_index (drop at source) 1) 40 e)
 
       clean : get_or source at 0 ≡ 93 → get_or source (at + 1) 0 ≡ 40 → Clean source at p
       clean first next =

@@ -1,19 +1,18 @@
 -- All leaves of a source may be cut.
-use Rattle.std.proofs.Common.{List, [], ◌∷◌, length, drop, get_or, ◌≡◌, ◌≤◌, ◌<◌, ◌+◌, ◌==◌, ℕ, zero, suc, refl, sym, ap, subst, ◌∙◌, arith, Bool, true, false, cond, Option, Some, None, is_some, add-zero, nat_lt, length-drop}
+use Rattle.std.proofs.Common.{List, [], ◌∷◌, length, drop, get_or, ◌≡◌, ◌≤◌, ◌<◌, ◌+◌, ℕ, zero, suc, refl, sym, ap, subst, ◌∙◌, arith, Bool, true, false, cond, Option, Some, None, is_some, add-zero, nat_lt, length-drop}
 use Rattle.std.specs.Str.{IsUtf8, IsCharBoundary}
 use Rattle.std.proofs.lemmas.Bool.{false≢true}
 use Rattle.std.proofs.lemmas.Bool.Decides.{nat_tests}
 use Rattle.std.proofs.lemmas.List.{get_or-drop, drop-drop}
 use Rattle.std.proofs.lemmas.Str.{IsCharBoundary-start, IsCharBoundary-end, IsCharBoundary-before_ascii}
 use Rattle.term_text.specs.LineEnds.{ends_line}
-use Rattle.md_lines.specs.Blanks.{is_blank}
 use Rattle.md_leaves.specs.declared.cut.Cut.{Cut}
 use Rattle.md_leaves.specs.Cuts.{AreLeaves}
 use Rattle.md_leaves.specs.Code.{code}
 use Rattle.md_leaves.specs.Closers.{closer}
 use Rattle.md_leaves.specs.Runs.{run}
 use Rattle.md_leaves.specs.Leaves.{cut_at, escape, line_end, opener, leaves, leaves_after, marked, or_text, text_length}
-use Rattle.md_leaves.proofs.TextLemmas.{always, marked-always, marked-plain}
+use Rattle.md_leaves.proofs.TextLemmas.{always, marked-always, marked-letter}
 use Rattle.md_leaves.proofs.PlaceLemmas.{Clean, Clean-join, Clean-one, IsText-clean}
 use Rattle.md_leaves.proofs.GoodCuts.{Good, GoodIfAny, good-or, escape-good, line_end-good, opener-good, code-good, run-good}
 use Rattle.md_leaves.proofs.GoodClosers.{closer-good}
@@ -35,15 +34,11 @@ marked-ascii source bs at b fits = go (nat_lt b 128) refl
     go true e = grind (arith, nat_tests)
     go false e =
         let high : 128 ≤ b = grind (arith, nat_tests) in
-        let blank : is_blank b ≡ false = grind (arith, nat_tests) in
-        let slash : (b == 92) ≡ false = grind (arith, nat_tests) in
-        let bang : (b == 33) ≡ false = grind (arith, nat_tests) in
-        let other : always b ≡ false = grind (arith, nat_tests) in
-        absurd (false≢true (sym (ap is_some (marked-plain source bs at b blank slash bang other)) ∙ fits))
+        absurd (false≢true (sym (ap is_some (marked-letter source bs at b (grind (arith, nat_tests)))) ∙ fits))
 
 -- and at each line end
-unmarked-plain : (source bs : List ℕ) (at b : ℕ) → is_some (marked source at (b ∷ bs)) ≡ false → ends_line b ≡ false
-unmarked-plain source bs at b none = go (ends_line b) refl
+unmarked-letter : (source bs : List ℕ) (at b : ℕ) → is_some (marked source at (b ∷ bs)) ≡ false → ends_line b ≡ false
+unmarked-letter source bs at b none = go (ends_line b) refl
   where
     go : (v : Bool) → ends_line b ≡ v → v ≡ false
     go true e =
@@ -88,7 +83,7 @@ text-end source at (b ∷ bs) e le = go (is_some (marked source at (b ∷ bs))) 
         let rest = more (omega arith) in
         let n : ℕ = text_length source (at + 1) bs in
         let to : at + 1 + n ≡ at + suc n = omega arith in
-        let plain : ends_line (get_or source at 0) ≡ false = ap ends_line (rest-first source bs at b e) ∙ unmarked-plain source bs at b none in
+        let plain : ends_line (get_or source at 0) ≡ false = ap ends_line (rest-first source bs at b e) ∙ unmarked-letter source bs at b none in
         record {
           clean = subst (Clean source at) to (Clean-join source at (at + 1) (at + 1 + n) (Clean-one source at plain) rest.clean);
           stop = subst (IsCharBoundary source) to rest.stop;
@@ -104,7 +99,7 @@ cut-good source bs at b e utf8 start =
     go : (o : Option Cut) → marked source at (b ∷ bs) ≡ o → GoodIfAny source at o → Good source at (or_text o n)
     go None none good =
         let rest : IsTextEnd source (at + 1) (at + 1 + n) = text-end source (at + 1) bs (rest-next source bs at b e) (let h : at < length source = rest-within source bs at b e in omega arith) in
-        let plain : ends_line (get_or source at 0) ≡ false = ap ends_line (rest-first source bs at b e) ∙ unmarked-plain source bs at b (ap is_some none) in
+        let plain : ends_line (get_or source at 0) ≡ false = ap ends_line (rest-first source bs at b e) ∙ unmarked-letter source bs at b (ap is_some none) in
         record {
           cut = IsText-clean source at (at + 1 + n) (omega arith) start rest.stop (Clean-join source at (at + 1) (at + 1 + n) (Clean-one source at plain) rest.clean);
           stop = rest.stop;

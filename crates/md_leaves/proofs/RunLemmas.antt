@@ -46,8 +46,8 @@ prefix_len-within p (x ∷ bs) = go (p x) (prefix_len-within p bs)
     go true h = omega arith
     go false h = omega arith
 
-same : (b k : ℕ) → (b == k) ≡ true → b ≡ k
-same b k e = grind (arith, nat_tests)
+pub same_byte : (b k : ℕ) → (b == k) ≡ true → b ≡ k
+same_byte b k e = grind (arith, nat_tests)
 
 -- a source may be cut at each place in a run of one ASCII byte, and behind it
 pub run-place : (source : List ℕ) (at n b : ℕ) → IsUtf8 source → at < length source → get_or source at 0 ≡ b → b < 128 → n ≤ prefix_len (λ x. x == b) (drop at source) → IsCharBoundary source (at + n)
@@ -55,7 +55,7 @@ run-place source at zero b utf8 lt is ascii le =
     let low : get_or source at 0 < 128 = omega arith in
     subst (IsCharBoundary source) (sym (add-zero at)) (IsCharBoundary-before_ascii source at lt low)
 run-place source at (suc n) b utf8 lt is ascii le =
-    let byte : get_or source (at + n) 0 ≡ b = sym (get_or-drop at source n 0) ∙ same (get_or (drop at source) n 0) b (prefix_len-holds (λ x. x == b) (drop at source) n (omega arith)) in
+    let byte : get_or source (at + n) 0 ≡ b = sym (get_or-drop at source n 0) ∙ same_byte (get_or (drop at source) n 0) b (prefix_len-holds (λ x. x == b) (drop at source) n (omega arith)) in
     let low : get_or source (at + n) 0 < 128 = omega arith in
     let within : at + n < length source = omega (arith, prefix_len-within (λ x. x == b) (drop at source), length-drop at source) in
     subst (IsCharBoundary source) (let e : at + n + 1 ≡ at + suc n = omega arith in e) (IsCharBoundary-after_ascii source (at + n) utf8 within low)
@@ -71,3 +71,14 @@ run-marked source at n b mark is some count =
     ∙ (ap (λ k. run_of source at (drop at source) k (mark_of b)) (sym count)
     ∙ (ap (run_of source at (drop at source) n) some
     ∙ ap (λ x. Some (run_between mark n (char_before (take at source)) (char_after x))) (drop-drop n at source)))
+
+-- so many of the byte at a place stand there
+pub record IsCounted (source : List ℕ) (at n b : ℕ) : Type 0 where
+  pub first : get_or source at 0 ≡ b
+  pub count : n ≡ prefix_len (λ x. x == b) (drop at source)
+
+pub counted : (source bytes rest : List ℕ) (at n : ℕ) → bytes ≡ source → rest ≡ drop at bytes → n ≡ prefix_len (λ x. x == get_or bytes at 0) rest → IsCounted source at n (get_or bytes at 0)
+counted source bytes rest at n same behind count = record {
+  first = ap (λ x. get_or x at 0) (sym same);
+  count = count ∙ ap (prefix_len (λ x. x == get_or bytes at 0)) (behind ∙ ap (drop at) same);
+}

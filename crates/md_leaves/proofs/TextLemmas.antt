@@ -11,14 +11,13 @@ use Rattle.md_leaves.specs.declared.cut.Cut.{Cut}
 use Rattle.md_leaves.specs.declared.leaf.Mark.{Mark}
 use Rattle.md_leaves.specs.Code.{is_tick, code_or_text, run_end}
 use Rattle.md_leaves.specs.Runs.{mark_of, run, run_of}
-use Rattle.md_leaves.specs.Leaves.{break_of, escape, is_letter, line_end, opener, marked, text_length, text_step}
-
-same : (b k : ℕ) → (b == k) ≡ true → b ≡ k
-same b k e = grind (arith, nat_tests)
+use Rattle.md_leaves.proofs.RunLemmas.{same_byte}
+use Rattle.md_leaves.specs.Leaves.{break_of, escape, line_end, opener, marked, text_length}
+use Rattle.md_leaves.specs.Steps.{is_letter, text_step}
 
 -- a byte is this one, or it is another
 by_test : (P : ℕ → Type 0) (b k : ℕ) (v : Bool) → (b == k) ≡ v → P k → ((b == k) ≡ false → P b) → P b
-by_test P b k true e here other = subst P (sym (same b k e)) here
+by_test P b k true e here other = subst P (sym (same_byte b k e)) here
 by_test P b k false e here other = other e
 
 or-none : {A : Type 0} (o : Option A) → option_or o None ≡ o
@@ -147,6 +146,14 @@ step-blank source bs at b false is e = record {
 }
 
 -- letters are text
+pub marked-letter : (source bs : List ℕ) (at b : ℕ) → is_letter b ≡ true → marked source at (b ∷ bs) ≡ None
+marked-letter source bs at b is =
+    let blank : is_blank b ≡ false = grind (arith, nat_tests) in
+    let slash : (b == 92) ≡ false = grind (arith, nat_tests) in
+    let bang : (b == 33) ≡ false = grind (arith, nat_tests) in
+    let other : always b ≡ false = grind (arith, nat_tests) in
+    marked-plain source bs at b blank slash bang other
+
 text_length-letters : (source bs : List ℕ) (at : ℕ) → text_length source at bs ≡ prefix_len is_letter bs + text_length source (at + prefix_len is_letter bs) (drop (prefix_len is_letter bs) bs)
 unfolding text_length
 text_length-letters source [] at = refl
@@ -156,13 +163,9 @@ text_length-letters source (b ∷ bs) at = go (is_letter b) refl (text_length-le
     go true is rest =
         let n : ℕ = prefix_len is_letter bs in
         let one : 1 + n ≡ suc n = omega arith in
-        let blank : is_blank b ≡ false = grind (arith, nat_tests) in
-        let slash : (b == 92) ≡ false = grind (arith, nat_tests) in
-        let bang : (b == 33) ≡ false = grind (arith, nat_tests) in
-        let other : always b ≡ false = grind (arith, nat_tests) in
         let place : at + 1 + n ≡ at + (1 + n) = omega arith in
         let after : text_length source (at + 1 + n) (drop n bs) ≡ text_length source (at + (1 + n)) (drop (1 + n) (b ∷ bs)) = ap (λ k. text_length source k (drop n bs)) place ∙ ap (λ k. text_length source (at + (1 + n)) (drop k (b ∷ bs))) (sym one) in
-        text_length-marked source bs at b false (ap is_some (marked-plain source bs at b blank slash bang other)) ∙ (ap suc rest ∙ (ap (λ x. suc (n + x)) after ∙ omega arith))
+        text_length-marked source bs at b false (ap is_some (marked-letter source bs at b is)) ∙ (ap suc rest ∙ (ap (λ x. suc (n + x)) after ∙ omega arith))
     go false is rest = ap (λ k. text_length source k (b ∷ bs)) (sym (add-zero at)) ∙ sym (zero-add (text_length source (at + 0) (b ∷ bs)))
 
 -- a byte that is text, and the letters behind it
@@ -194,11 +197,11 @@ text_step-is source bs at b = blanks (is_blank b) refl
     others false e blank slash bang = step-plain source bs at b (marked-plain source bs at b blank slash bang e)
 
     bangs : (v : Bool) → (b == 33) ≡ v → is_blank b ≡ false → (b == 92) ≡ false → IsStep source at (b ∷ bs) (cond v opener_step (cond (always b) 0 (1 + prefix_len is_letter bs)))
-    bangs true e blank slash = subst (λ x. IsStep source at (x ∷ bs) (cond (is_some (opener (x ∷ bs))) 0 1)) (sym (same b 33 e)) (step-fits source bs at 33 (is_some (opener (33 ∷ bs))) (ap is_some (marked-bang source bs at)))
+    bangs true e blank slash = subst (λ x. IsStep source at (x ∷ bs) (cond (is_some (opener (x ∷ bs))) 0 1)) (sym (same_byte b 33 e)) (step-fits source bs at 33 (is_some (opener (33 ∷ bs))) (ap is_some (marked-bang source bs at)))
     bangs false e blank slash = others (always b) refl blank slash e
 
     slashes : (v : Bool) → (b == 92) ≡ v → is_blank b ≡ false → IsStep source at (b ∷ bs) (cond v escape_step (cond (b == 33) opener_step (cond (always b) 0 (1 + prefix_len is_letter bs))))
-    slashes true e blank = subst (λ x. IsStep source at (x ∷ bs) (cond (is_some (escape (x ∷ bs))) 0 1)) (sym (same b 92 e)) (step-fits source bs at 92 (is_some (escape (92 ∷ bs))) (ap is_some (marked-escape source bs at)))
+    slashes true e blank = subst (λ x. IsStep source at (x ∷ bs) (cond (is_some (escape (x ∷ bs))) 0 1)) (sym (same_byte b 92 e)) (step-fits source bs at 92 (is_some (escape (92 ∷ bs))) (ap is_some (marked-escape source bs at)))
     slashes false e blank = bangs (b == 33) refl blank e
 
     blanks : (v : Bool) → is_blank b ≡ v → IsStep source at (b ∷ bs) (cond v blank_step (cond (b == 92) escape_step (cond (b == 33) opener_step (cond (always b) 0 (1 + prefix_len is_letter bs)))))
@@ -215,38 +218,44 @@ pub text_length-end : (source : List ℕ) (at : ℕ) → length source ≤ at �
 unfolding text_length
 text_length-end source at le = ap (text_length source at) (drop_all at source le)
 
--- at most one of these two rules fits
-run-or-line_end : (source bs : List ℕ) (at b : ℕ) → option_or (line_end (b ∷ bs)) (run source at (b ∷ bs)) ≡ option_or (run source at (b ∷ bs)) (line_end (b ∷ bs))
-run-or-line_end source bs at b = go (mark_of b) refl
+-- at most one of these rules fits
+line_end-none : (b : ℕ) (bs : List ℕ) → is_blank b ≡ false → ends_line b ≡ false → line_end (b ∷ bs) ≡ None
+line_end-none b bs blank plain =
+    not_none (line_end (b ∷ bs)) (line_end-some (b ∷ bs) ∙ (ap (λ v. ends_line (slice_index (b ∷ bs) (cond v (1 + prefix_len is_blank bs) 0))) blank ∙ plain))
+
+or-swapped : (end first : Option Cut) → end ≡ None → option_or end first ≡ option_or first end
+or-swapped end first none = ap (λ o. option_or o first) none ∙ (sym (or-none first) ∙ ap (option_or first) (sym none))
+
+last-rules : (source bs : List ℕ) (at b : ℕ) → option_or (line_end (b ∷ bs)) (option_or (opener (b ∷ bs)) (run source at (b ∷ bs))) ≡ option_or (option_or (opener (b ∷ bs)) (run source at (b ∷ bs))) (line_end (b ∷ bs))
+last-rules source bs at b = go (b == 33) (b == 91) refl refl (mark_of b) refl
   where
     end : Option Cut
     end = line_end (b ∷ bs)
 
-    marks : Option Cut
-    marks = run source at (b ∷ bs)
+    others : Option Cut
+    others = option_or (opener (b ∷ bs)) (run source at (b ∷ bs))
 
-    go : (found : Option Mark) → mark_of b ≡ found → option_or end marks ≡ option_or marks end
-    go None e =
-        let none : marks ≡ None = ap (run_of source at (b ∷ bs) (prefix_len (λ x. x == b) (b ∷ bs))) e in
+    swapped : is_blank b ≡ false → ends_line b ≡ false → option_or end others ≡ option_or others end
+    swapped blank plain = or-swapped end others (line_end-none b bs blank plain)
+
+    go : (bang bracket : Bool) → (b == 33) ≡ bang → (b == 91) ≡ bracket → (found : Option Mark) → mark_of b ≡ found → option_or end others ≡ option_or others end
+    go true bracket e f found m = swapped (grind (arith, nat_tests)) (grind (arith, nat_tests))
+    go false true e f found m = swapped (grind (arith, nat_tests)) (grind (arith, nat_tests))
+    go false false e f (Some mark) m = swapped (grind (arith, nat_tests)) (grind (arith, nat_tests))
+    go false false e f None m =
+        let none : others ≡ None = rw (e, f) (ap (run_of source at (b ∷ bs) (prefix_len (λ x. x == b) (b ∷ bs))) m) in
         ap (option_or end) none ∙ (or-none end ∙ sym (ap (λ o. option_or o end) none))
-    go (Some mark) e =
-        let blank : is_blank b ≡ false = grind (arith, nat_tests) in
-        let plain : ends_line b ≡ false = grind (arith, nat_tests) in
-        let none : end ≡ None = not_none end (line_end-some (b ∷ bs) ∙ (ap (λ v. ends_line (slice_index (b ∷ bs) (cond v (1 + prefix_len is_blank bs) 0))) blank ∙ plain)) in
-        ap (λ o. option_or o marks) none ∙ (sym (or-none marks) ∙ ap (option_or marks) (sym none))
 
 other_byte : (b k : ℕ) → (b ≡ k → ⊥) → (b == k) ≡ false
 other_byte b k other = grind (arith, nat_tests)
 
--- where the first byte is none of these, a run or the end of a line may stand
-pub marked-rest : (source : List ℕ) (at b : ℕ) → at < length source → get_or source at 0 ≡ b → (b ≡ 92 → ⊥) → (b ≡ 96 → ⊥) → (b ≡ 33 → ⊥) → (b ≡ 91 → ⊥) → (b ≡ 93 → ⊥) → marked source at (drop at source) ≡ option_or (run source at (drop at source)) (line_end (drop at source))
-marked-rest source at b lt is h1 h2 h3 h4 h5 =
+-- where the first byte is none of these, an opener, a run or the end of a line may stand
+pub marked-rest : (source : List ℕ) (at b : ℕ) → at < length source → get_or source at 0 ≡ b → (b ≡ 92 → ⊥) → (b ≡ 96 → ⊥) → (b ≡ 93 → ⊥) → marked source at (drop at source) ≡ option_or (option_or (opener (drop at source)) (run source at (drop at source))) (line_end (drop at source))
+marked-rest source at b lt is no_slash no_tick no_closer =
     let bs : List ℕ = drop (at + 1) source in
     let e : drop at source ≡ b ∷ bs = drop_more source at 0 lt ∙ ap (λ x. x ∷ bs) is in
-    let slash = other_byte b 92 h1 in
-    let tick = other_byte b 96 h2 in
-    let bang = other_byte b 33 h3 in
-    let opens = other_byte b 91 h4 in
-    let closes = other_byte b 93 h5 in
-    let one : marked source at (b ∷ bs) ≡ option_or (line_end (b ∷ bs)) (run source at (b ∷ bs)) = rw (slash, tick, bang, opens, closes) refl in
-    ap (marked source at) e ∙ (one ∙ (run-or-line_end source bs at b ∙ ap (λ x. option_or (run source at x) (line_end x)) (sym e)))
+    let slash = other_byte b 92 no_slash in
+    let tick = other_byte b 96 no_tick in
+    let closes = other_byte b 93 no_closer in
+    let one : marked source at (b ∷ bs) ≡ option_or (line_end (b ∷ bs)) (option_or (opener (b ∷ bs)) (run source at (b ∷ bs))) = rw (slash, tick, closes) refl in
+    ap (marked source at) e ∙ (one ∙ (last-rules source bs at b ∙ ap (λ x. option_or (option_or (opener x) (run source at x)) (line_end x)) (sym e)))

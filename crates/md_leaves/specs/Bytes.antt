@@ -4,7 +4,7 @@ use Rattle.md_lines.specs.Blanks.{is_blank}
 use Rattle.md_leaves.specs.declared.bytes.Class.{Class}
 use Rattle.md_leaves.specs.declared.bytes.Class.TheVariants as class
 use Rattle.md_leaves.specs.Closers.{is_in_angles, is_in_title}
-use Rattle.md_leaves.specs.Leaves.{is_letter}
+use Rattle.md_leaves.specs.Steps.{is_letter}
 
 abbrev pub holds : Class → ℕ → Bool
 holds class.Blank b = is_blank b

@@ -1,5 +1,5 @@
 -- Leaves: what a source is cut into, from left to right.
-use Rattle.std.specs.Prelude.{Bool, nat_lt, ℕ, zero, suc, ◌+◌, ◌==◌, nat_le, false, true, not, ◌&&◌, ◌||◌, is_some, if◌then◌else◌, Option, None, Some, List, [], ◌∷◌}
+use Rattle.std.specs.Prelude.{ℕ, zero, suc, ◌+◌, ◌==◌, nat_le, false, true, not, ◌&&◌, is_some, if◌then◌else◌, Option, None, Some, List, [], ◌∷◌}
 use Rattle.std.specs.List.{prefix_len, slice_index}
 use Rattle.std.specs.Option.{option_or}
 use Rattle.std.specs.Char.{is_ascii_punctuation}
@@ -9,9 +9,9 @@ use Rattle.md_leaves.specs.declared.leaf.Kind.{Kind}
 use Rattle.md_leaves.specs.declared.leaf.Kind.TheVariants as kind
 use Rattle.md_leaves.specs.declared.leaf.Leaf.{Leaf}
 use Rattle.md_leaves.specs.declared.cut.Cut.{Cut}
-use Rattle.md_leaves.specs.Code.{is_tick, code}
+use Rattle.md_leaves.specs.Code.{code}
 use Rattle.md_leaves.specs.Closers.{closer}
-use Rattle.md_leaves.specs.Runs.{mark_of, run}
+use Rattle.md_leaves.specs.Runs.{run}
 
 -- A source is the bodies of its lines with a line end between each two, without the blanks at the end of the last line.
 -- So a line end in it is always that of a line which is not the last.
@@ -82,18 +82,3 @@ leaves_after source at zero (b ∷ bs) = leaf at (cut_at source at b bs) ∷ lea
 -- the leaves of a source
 abbrev pub leaves : List ℕ → List Leaf
 leaves source = leaves_after source 0 0 source
-
--- the bytes behind `[` to `` ` `` other than `~`, which are text wherever they stand
-abbrev pub is_letter : ℕ → Bool
-is_letter b = nat_lt 96 b && not (b == 126)
-
--- how many bytes in front are seen at once to be text; none where a rule fits
-abbrev pub text_step : List ℕ → ℕ
-text_step [] = 0
-text_step (b ∷ bs) =
-    let n = prefix_len is_blank (b ∷ bs) in
-    if is_blank b then (if ends_line (slice_index (b ∷ bs) n) then 0 else n)
-    else if b == 92 then (if is_some (escape (b ∷ bs)) then 0 else 1)
-    else if b == 33 then (if is_some (opener (b ∷ bs)) then 0 else 1)
-    else if (ends_line b || is_tick b) || ((b == 91 || b == 93) || is_some (mark_of b)) then 0
-    else 1 + prefix_len is_letter bs

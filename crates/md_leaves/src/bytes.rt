@@ -4,7 +4,7 @@ ghost use Rattle.std.specs.List.{prefix_len, slice_index};
 ghost use Rattle.term_text.specs.LineEnds.{ends_line};
 ghost use Rattle.md_leaves.specs.Bytes.{holds};
 ghost use Rattle.md_leaves.specs.Closers.{is_in_angles, is_in_title};
-ghost use Rattle.md_leaves.specs.Leaves.{is_letter};
+ghost use Rattle.md_leaves.specs.Steps.{is_letter};
 
 use md_lines::is_blank;
 

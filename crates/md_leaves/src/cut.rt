@@ -2,7 +2,8 @@
 ghost use Rattle.std.specs.Prelude.{◌≡◌, ◌≤◌, ◌<◌, ◌+◌, drop, length, IfOk, IfSome};
 ghost use Rattle.md_leaves.specs.Ahead.{Knows};
 ghost use Rattle.md_leaves.specs.Cuts.{AreLeaves};
-ghost use Rattle.md_leaves.specs.Leaves.{first_cut, leaves, marked, or_text, text_length, text_step};
+ghost use Rattle.md_leaves.specs.Leaves.{first_cut, leaves, marked, or_text, text_length};
+ghost use Rattle.md_leaves.specs.Steps.{text_step};
 
 use crate::bytes::{Class, byte_at, ends_line, rest_of, stretch};
 use crate::closer::closer;
@@ -82,18 +83,12 @@ fn marked(source: &str, at: usize, ahead: &mut Ahead) -> Result<Option<Cut>, All
         return Ok(escape(rest));
     }
     if first == b'`' {
-        return Ok(code(bytes, at, &mut ahead.runs)?);
-    }
-    if first == b'!' {
-        return Ok(opener(rest));
-    }
-    if first == b'[' {
-        return Ok(opener(rest));
+        return code(bytes, at, &mut ahead.runs);
     }
     if first == b']' {
-        return Ok(closer(bytes, at, &mut ahead.parens)?);
+        return closer(bytes, at, &mut ahead.parens);
     }
-    Ok(run(source, at).or(line_end(rest)))
+    Ok(opener(rest).or(run(source, at)).or(line_end(rest)))
 }
 
 /// The cut of the rule that fits, or else text.

@@ -1,6 +1,7 @@
 use Rattle.std.proofs.Common.{◌≡◌, ◌+◌, ◌∙◌, ℕ, List, ap, arith, drop, length, length-drop}
 use Rattle.std.proofs.lemmas.List.{drop-drop}
-use Rattle.md_leaves.specs.Leaves.{text_length, text_step}
+use Rattle.md_leaves.specs.Leaves.{text_length}
+use Rattle.md_leaves.specs.Steps.{text_step}
 use Rattle.md_leaves.proofs.TextLemmas.{IsStep, text_step-at, text_length-end}
 use Rattle.md_leaves.proofs.cut.text_length.Goals as goal
 use Rattle.md_leaves.proofs.cut.text_length.Goals.{else-loop-at-test, then-loop-at-test+then-more-eq0}
