@@ -9,11 +9,11 @@ use Rattle.md_leaves.specs.declared.leaf.Leaf as cut
 use Rattle.md_leaves.specs.Cuts.{IsLeaf, AreLeaves}
 use Rattle.md_runs.specs.declared.part.Group.{Group}
 use Rattle.md_runs.specs.declared.pair.Pair.{Pair}
-use Rattle.md_runs.specs.Brackets.{Part, Single, Grouped, balance, group_of, parts, singles}
+use Rattle.md_runs.specs.Brackets.{Part, Single, Grouped, is_opener, balance, group_of, parts, singles}
 use Rattle.md_runs.specs.Pairs.{size, pair_of}
 use Rattle.md_runs.specs.Nest.{Inlines, Empty, pairs, inner, nest, parts_of}
 use Rattle.md_runs.specs.Marks.{Step, steps, alone_step}
-use Rattle.md_runs.specs.Plain.{begins_element, leaf_begins_element, plain_steps}
+use Rattle.md_runs.specs.Plain.{begins_element, leaf_begins_element, leaf_is_opener, plain_steps}
 use Rattle.md_runs.proofs.PartSteps.{parts-none, parts-single}
 use Rattle.md_runs.proofs.PairSteps.{nest-parts, pairs-none, pairs-unpaired, unpaired-rest, steps-alone}
 
@@ -21,7 +21,7 @@ neither : (a b : Bool) → (a || b) ≡ false → (a ≡ false) × (b ≡ false)
 neither true b e = cc
 neither false b e = (refl, e)
 
-no-group : (l : Bool) (k : Kind) (c : Option ℕ) (ls : List cut.Leaf) → begins_element k ≡ false → group_of l k c ls ≡ None
+no-group : (l : Bool) (k : Kind) (c : Option ℕ) (ls : List cut.Leaf) → is_opener k ≡ false → group_of l k c ls ≡ None
 no-group l kind.Text c ls e = refl
 no-group l kind.Escape c ls e = refl
 no-group l kind.SoftBreak c ls e = refl
@@ -41,15 +41,31 @@ no-pair source v (kind.Opener i) n to ps e = refl
 no-pair source v (kind.Closer target) n to ps e = refl
 no-pair source v (kind.Run m opens closes) n to ps e = rw e refl
 
-parts-plain : (l : Bool) (ls : List cut.Leaf) → list_any leaf_begins_element ls ≡ false → parts l ls ≡ singles ls
+parts-plain : (l : Bool) (ls : List cut.Leaf) → list_any leaf_is_opener ls ≡ false → parts l ls ≡ singles ls
 parts-plain l [] e = parts-none l
 parts-plain l (leaf ∷ ls) e =
-    let n = neither (begins_element leaf.kind) (list_any leaf_begins_element ls) e in
+    let n = neither (is_opener leaf.kind) (list_any leaf_is_opener ls) e in
     parts-single l leaf ls (no-group l leaf.kind (balance 0 ls) ls n.0) ∙ ap (λ ps. Single leaf ∷ ps) (parts-plain l ls n.1)
 
-parts_of-plain : (d : ℕ) (l : Bool) (ls : List cut.Leaf) → list_any leaf_begins_element ls ≡ false → parts_of d l ls ≡ singles ls
+pub parts_of-plain : (d : ℕ) (l : Bool) (ls : List cut.Leaf) → list_any leaf_is_opener ls ≡ false → parts_of d l ls ≡ singles ls
 parts_of-plain zero l ls e = refl
 parts_of-plain (suc d) l ls e = parts-plain l ls e
+
+no-opener : (k : Kind) → begins_element k ≡ false → is_opener k ≡ false
+no-opener kind.Text e = refl
+no-opener kind.Escape e = refl
+no-opener kind.SoftBreak e = refl
+no-opener kind.HardBreak e = refl
+no-opener (kind.Code ticks) e = refl
+no-opener (kind.Opener i) e = cc
+no-opener (kind.Closer target) e = refl
+no-opener (kind.Run m opens closes) e = refl
+
+no-openers : (ls : List cut.Leaf) → list_any leaf_begins_element ls ≡ false → list_any leaf_is_opener ls ≡ false
+no-openers [] e = refl
+no-openers (leaf ∷ ls) e =
+    let n = neither (begins_element leaf.kind) (list_any leaf_begins_element ls) e in
+    rw (no-opener leaf.kind n.0) (no-openers ls n.1)
 
 pairs-plain : (source : List ℕ) (inner : ℕ → Bool → List cut.Leaf → Inlines) (v : ℕ) (ls : List cut.Leaf) → list_any leaf_begins_element ls ≡ false → steps (pairs source inner v (singles ls)) ≡ plain_steps source ls
 unfolding steps plain_steps
@@ -63,7 +79,7 @@ pairs-plain source inner v (leaf ∷ ls) e =
 
 pub steps-plain : (source : List ℕ) (d v : ℕ) (l : Bool) (ls : List cut.Leaf) → list_any leaf_begins_element ls ≡ false → steps (nest source d v l ls) ≡ plain_steps source ls
 steps-plain source d v l ls e =
-    ap steps (nest-parts source d v l ls) ∙ (ap (λ ps. steps (pairs source (inner source d l) v ps)) (parts_of-plain d l ls e) ∙ pairs-plain source (inner source d l) v ls e)
+    ap steps (nest-parts source d v l ls) ∙ (ap (λ ps. steps (pairs source (inner source d l) v ps)) (parts_of-plain d l ls (no-openers ls e)) ∙ pairs-plain source (inner source d l) v ls e)
 
 pub AreLeaves-get : (source : List ℕ) (n : ℕ) (ls : List cut.Leaf) (d : cut.Leaf) → n < length ls → AreLeaves source ls → IsLeaf source (get_or ls n d)
 AreLeaves-get source n [] d lt h = absurd (omega arith)

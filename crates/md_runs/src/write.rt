@@ -12,7 +12,7 @@ ghost use Rattle.md_runs.specs.Facts.{AreParts, IsPart, IsPen};
 use crate::alone::{has_beginning, write_alone, write_plain};
 use crate::element::{close, close_group, open, open_group};
 use crate::pair::{Gone, Pair, between, cost, first_pair};
-use crate::part::{Group, Part, parts, singles};
+use crate::part::{Group, Part, has_opener, parts, singles};
 use crate::pen::{Pen, flush};
 use crate::source::Source;
 use md_leaves::Leaf;
@@ -227,7 +227,7 @@ fn write_inside<'a>(
     Ok(())
 }
 
-/// The parts of leaves: where no link or image may stand, each leaf by itself.
+/// The parts of leaves: where no link or image may stand or begins, each leaf by itself.
 fn parts_of<'l>(
     alloc: Global,
     leaves: &'l [Leaf],
@@ -236,8 +236,11 @@ fn parts_of<'l>(
     ensures { IfOk result (λ v. v.items ≡ parts_of level.depth level.in_link leaves.now) }
 {
     if level.depth == 0 {
-        singles(alloc, leaves)
-    } else {
-        parts(alloc, level.in_link, leaves)
+        return singles(alloc, leaves);
     }
+    if has_opener(leaves) {
+        return parts(alloc, level.in_link, leaves);
+    }
+    let singles = singles(alloc, leaves)?;
+    Ok(singles)
 }
