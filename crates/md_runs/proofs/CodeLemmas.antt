@@ -13,7 +13,7 @@ use Rattle.term_text.specs.LineEnds.{is_one_line, ends_line}
 use Rattle.md_lines.proofs.LineLemmas.{is_one_line-drop, is_one_line-front}
 use Rattle.md_leaves.specs.Cuts.{IsPlace, IsText}
 use Rattle.md_runs.specs.Code.{spaced, is_space, counts_as_space, is_padded, unpadded, padding, code_text, first_line_end}
-use Rattle.md_runs.proofs.Lists.{drop-drop}
+use Rattle.md_runs.proofs.Lists.{both-true, drop-drop}
 
 pub slice_index_spaced : (bs : List ℕ) (i : ℕ) → slice_index (map spaced bs) i ≡ spaced (slice_index bs i)
 slice_index_spaced bs i = get_or-map spaced bs i 0
@@ -75,10 +75,6 @@ spaced-one_line (b ∷ bs) one = go (ends_line b) (b == 10) refl refl one (space
         never : (b : ℕ) → ends_line b ≡ false → (b == 10) ≡ true → ⊥
         never b e f = grind (arith, nat_tests)
     go false false e f one ih = ap (λ x. b ∷ x) (ih one)
-
-both-true : (a b : Bool) → (a && b) ≡ true → (a ≡ true) × (b ≡ true)
-both-true true b e = (refl, e)
-both-true false b e = cc
 
 space-ascii : (b : ℕ) → is_space (spaced b) ≡ true → b < 128
 space-ascii b e = grind (arith, nat_tests)

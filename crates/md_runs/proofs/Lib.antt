@@ -11,3 +11,4 @@ pub mod Turns
 pub mod Joined
 pub mod Fits
 pub mod Laws
+pub mod PlainSteps

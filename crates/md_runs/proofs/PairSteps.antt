@@ -18,6 +18,7 @@ use Rattle.md_runs.specs.Brackets.{Part, Single, Grouped}
 use Rattle.md_runs.specs.Pairs.{size, has_style, search, is_taken, pair_with, cost, pair_of, pair_at, first_pair, between}
 use Rattle.md_runs.specs.Nest.{Inlines, Empty, Text, Leaf, Branch, stressed, styled, alone, group_tag, unpaired, by_pair, pairs_after, pairs, inner, nest, parts_of}
 use Rattle.md_runs.specs.Marks.{Step, At, An, steps, stress_opened, opened, stress_closed, closed, alone_step}
+use Rattle.md_runs.proofs.Lists.{both-true}
 
 pub nest-parts : (source : List ℕ) (depth levels : ℕ) (in_link : Bool) (ls : List cut.Leaf) → nest source depth levels in_link ls ≡ pairs source (inner source depth in_link) levels (parts_of depth in_link ls)
 unfolding nest
@@ -45,10 +46,6 @@ after-skip source n inner inside (suc k) (p ∷ ps) = after-skip source n inner 
 
 cost-positive : (n : ℕ) → 1 ≤ cost n
 cost-positive n = elim (n == 3) as (λ v. 1 ≤ cond v 2 1) [ true ↦ omega arith | false ↦ omega arith ]
-
-both-true : (a b : Bool) → (a && b) ≡ true → (a ≡ true) × (b ≡ true)
-both-true true b e = (refl, e)
-both-true false b e = cc
 
 -- what a pair says
 pub record Paired (source : List ℕ) (levels : ℕ) (ps : List Part) (q : Pair) : Type 0 where

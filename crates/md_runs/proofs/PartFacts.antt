@@ -18,6 +18,7 @@ use Rattle.md_runs.specs.Pairs.{size, same_mark, is_script, size_fits, ends_sear
 use Rattle.md_runs.specs.Nest.{parts_of}
 use Rattle.md_runs.specs.Facts.{IsPart, AreParts}
 use Rattle.md_runs.proofs.PairSteps.{Paired}
+use Rattle.md_runs.proofs.Lists.{both-true}
 
 pub AreLeaves-take : (source : List ℕ) (n : ℕ) (ls : List Leaf) → AreLeaves source ls → AreLeaves source (take n ls)
 AreLeaves-take source zero ls h = tt
@@ -103,10 +104,6 @@ AreParts-after source in_link zero (l ∷ ls) h = go (group_at in_link l ls) ref
 pub AreParts-parts_of : (source : List ℕ) (depth : ℕ) (in_link : Bool) (ls : List Leaf) → AreLeaves source ls → AreParts source (parts_of depth in_link ls)
 AreParts-parts_of source zero in_link ls h = AreParts-singles source ls h
 AreParts-parts_of source (suc depth) in_link ls h = AreParts-after source in_link 0 ls h
-
-both-true : (a b : Bool) → (a && b) ≡ true → (a ≡ true) × (b ≡ true)
-both-true true b e = (refl, e)
-both-true false b e = cc
 
 size-fits : (m : Mark) (n k : ℕ) → size_fits m n k ≡ true → n ≤ k
 size-fits mark.Star n k e = stress n k e

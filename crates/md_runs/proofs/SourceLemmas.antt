@@ -15,7 +15,7 @@ use Rattle.md_leaves.specs.Cuts.{IsPlace, IsText}
 use Rattle.md_runs.specs.Source.{source_of, line_start, body_at}
 use Rattle.md_runs.specs.declared.source.Cursor.{Cursor}
 use Rattle.md_runs.specs.Facts.{IsCursor}
-use Rattle.md_runs.proofs.Lists.{drop-drop}
+use Rattle.md_runs.proofs.Lists.{drop-drop, take-nil}
 
 without_end_blanks-line : (bs ys : List ℕ) → without_end_blanks (bs ++ 10 ∷ ys) ≡ bs ++ 10 ∷ without_end_blanks ys
 unfolding without_end_blanks
@@ -179,10 +179,6 @@ text-in-line bodies n from to lt before within t = go (drop (n + 1) bodies) refl
 pub text-no-line : (bodies : List (List ℕ)) (from to : ℕ) → length bodies ≡ 0 → slice_range (source_of bodies) from to ≡ []
 unfolding without_end_blanks
 text-no-line [] from to none = ap (take (to - from)) (drop-nil from) ∙ take-nil (to - from)
-  where
-    take-nil : (n : ℕ) → take n (let none : List ℕ = [] in none) ≡ []
-    take-nil zero = refl
-    take-nil (suc n) = refl
 text-no-line (body ∷ bodies) from to none = absurd (omega arith)
 
 pub body_at-map : (n : ℕ) (lines : List LineText) (d : LineText) (body : List ℕ) → n < length lines → d ≡ get_or lines n d → d.body ≡ body → body_at n (map body_of lines) ≡ body

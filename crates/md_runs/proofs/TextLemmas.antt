@@ -11,7 +11,7 @@ use Rattle.md_runs.specs.declared.pen.Place.{Place}
 use Rattle.md_runs.specs.Texts.{bytes_at, touch, both, longer}
 use Rattle.md_runs.specs.Marks.{Step, At, An, text_first, joined}
 use Rattle.md_runs.specs.Facts.{IsPending}
-use Rattle.md_runs.proofs.Lists.{drop-drop}
+use Rattle.md_runs.proofs.Lists.{drop-drop, take-nil}
 
 pub joined-longer : (source : List ℕ) (p : Option Place) (q r : Place) (ss : List Step) → longer p q ≡ Some r → joined source (Some r) ss ≡ joined source p (At q ∷ ss)
 unfolding joined
@@ -40,10 +40,6 @@ slice-both xs a b c p q =
     ∙ (split (b - a) (c - b) (drop a xs)
     ∙ ap (λ x. take (b - a) (drop a xs) ++ take (c - b) x) (sym (drop-drop (b - a) a xs) ∙ ap (λ k. drop k xs) m))
   where
-    take-nil : (n : ℕ) → take n (let none : List ℕ = [] in none) ≡ []
-    take-nil zero = refl
-    take-nil (suc n) = refl
-
     split : (m n : ℕ) (ys : List ℕ) → take (m + n) ys ≡ take m ys ++ take n (drop m ys)
     split zero n ys = ap (λ k. take k ys) (let e : 0 + n ≡ n = omega arith in e)
     split (suc m) n [] = take-nil (suc m + n) ∙ sym (take-nil n)

@@ -9,3 +9,4 @@ pub mod Marks
 pub mod Partners
 pub mod Facts
 pub mod Levels
+pub mod Plain

@@ -1,7 +1,9 @@
 //! Inlines of a Markdown source from its leaves: brackets, runs and texts.
 #![tactic(auto)]
 
+mod alone;
 mod code;
+mod element;
 mod pair;
 mod part;
 mod partners;

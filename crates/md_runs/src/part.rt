@@ -1,7 +1,9 @@
 // The parts of a level: leaves, and links and images of leaves.
 ghost use Rattle.std.specs.Prelude.{◌≡◌, ◌<◌, IfOk, length, take, drop};
+ghost use Rattle.std.specs.List.{list_any};
 ghost use Rattle.md_runs.specs.Brackets.{Single, balance, target_of, first_target, group_of, parts, parts_after, singles};
 ghost use Rattle.md_runs.specs.Partners.{balances};
+ghost use Rattle.md_runs.specs.Plain.{leaf_is_opener};
 
 use crate::partners::balances;
 use md_leaves::{Kind, Leaf, Target};
@@ -136,4 +138,17 @@ fn target_at(leaves: &[Leaf], more: usize) -> Option<Target>
         },
         None => None,
     }
+}
+
+/// Whether a link or an image may begin at one of the leaves.
+pub fn has_opener(leaves: &[Leaf]) -> bool
+    ensures { result ≡ list_any leaf_is_opener leaves.now }
+{
+    leaves.iter().any(|leaf| leaf_is_opener(leaf))
+}
+
+fn leaf_is_opener(leaf: &Leaf) -> bool
+    ensures { result ≡ leaf_is_opener leaf.now }
+{
+    matches!(leaf.kind, Kind::Opener { .. })
 }

@@ -96,6 +96,24 @@ pub fn flush<'a>(
     Ok(())
 }
 
+/// Appends the text that was kept before an event, and goes on to the line of a place, so that what is looked for from
+/// there on is near.
+#[tactic(auto, unfolding(crate::specs::Marks::joined))]
+pub fn flush_to<'a>(
+    source: &Source<'a, '_>,
+    place: usize,
+    pen: &mut Pen,
+    out: &mut Vec<Event<'a>>,
+) -> Result<(), AllocError>
+    requires pen { IsPen source.now pen.old }
+    ensures written { OnOk result ((e : Event) → (ss : List Step) → out.new.items ++ joined source.now.text pen.new.pending (An e ∷ ss) ≡ out.old.items ++ joined source.now.text pen.old.pending (An e ∷ ss)) }
+    ensures pen { OnOk result (IsPen source.now pen.new) }
+{
+    flush(source, pen, out)?;
+    pen.cursor = source.line_at(place, pen.cursor);
+    Ok(())
+}
+
 /// Appends an event.
 #[tactic(auto, unfolding(crate::specs::Marks::joined))]
 pub fn put_event<'a>(

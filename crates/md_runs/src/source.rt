@@ -81,6 +81,15 @@ impl<'a, 's> Source<'a, 's> {
         }
     }
 
+    /// The line of a place, which is looked for from a line on, or from the first where the place stands before that.
+    pub fn line_at(&self, place: usize, cursor: Cursor) -> Cursor
+        requires { IsCursor self.now.bodies cursor }
+        ensures { IsCursor self.now.bodies result }
+    {
+        let lines = self.lines;
+        line_at(lines, place, cursor)
+    }
+
     /// The text at a place, which borrows from the text of the whole source.
     pub fn slice(&self, from: usize, to: usize) -> &'s str
         requires { IsPlace self.now.text from to }
@@ -135,7 +144,7 @@ fn is_gap(b: u8) -> bool
     is_blank(b) || b == b'\n'
 }
 
-/// The line of a place, which is looked for from a line on, or from the first where the place stands before that.
+/// The line of a place, as far as it is known from the lines.
 fn line_at(lines: &[Line], place: usize, cursor: Cursor) -> Cursor
     requires { IsCursor (map body_of lines.now) cursor }
     ensures cursor { IsCursor (map body_of lines.now) result }

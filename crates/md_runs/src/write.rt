@@ -1,26 +1,23 @@
 // Leaves written as inlines: links, images and pairs of runs, one in another.
-ghost use Rattle.std.specs.Prelude.{◌≡◌, ◌++◌, [], ◌∷◌, ◌-◌, ◌||◌, List, Some, IfOk, OnOk, drop, not};
-ghost use Rattle.std.specs.List.{slice_range};
-ghost use Rattle.md_tree.specs.declared.event.Event.TheVariants as event;
-ghost use Rattle.md_tree.specs.Tree.{end_of, events};
-ghost use Rattle.md_leaves.specs.Cuts.{IsPlace, IsText, IsLeaf, AreLeaves};
-ghost use Rattle.md_runs.specs.Code.{code_text};
+ghost use Rattle.std.specs.Prelude.{◌≡◌, ◌++◌, ◌-◌, ◌||◌, List, Some, IfOk, OnOk, drop, not};
+ghost use Rattle.md_tree.specs.Tree.{events};
+ghost use Rattle.md_leaves.specs.Cuts.{IsText, AreLeaves};
 ghost use Rattle.md_runs.specs.Brackets.{Grouped};
-ghost use Rattle.md_runs.specs.Nest.{Empty, group_tag, inner, nest, pairs, parts_of, styled, unpaired};
+ghost use Rattle.md_runs.specs.Nest.{Empty, inner, nest, pairs, parts_of, styled, unpaired};
 ghost use Rattle.md_runs.specs.Pairs.{between, cost, first_pair};
 ghost use Rattle.md_runs.specs.Texts.{inlines_of};
-ghost use Rattle.md_runs.specs.Marks.{Step, An, alone_step, closed, joined, opened, steps, stress_closed, stress_opened};
+ghost use Rattle.md_runs.specs.Marks.{Step, joined, steps};
 ghost use Rattle.md_runs.specs.Facts.{AreParts, IsPart, IsPen};
 
-use crate::code::code_at;
+use crate::alone::{has_beginning, write_alone, write_plain};
+use crate::element::{close, close_group, open, open_group};
 use crate::pair::{Gone, Pair, between, cost, first_pair};
-use crate::part::{Group, Part, parts, singles};
-use crate::pen::{Pen, Place, flush, put_event, put_text};
+use crate::part::{Group, Part, has_opener, parts, singles};
+use crate::pen::{Pen, flush};
 use crate::source::Source;
-use md_leaves::{Kind, Leaf, Mark, Target};
-use md_tree::{Event, Tag, TagEnd};
+use md_leaves::Leaf;
+use md_tree::Event;
 use std::alloc::{AllocError, Global};
-use term_text::CowStr;
 
 /// Where leaves stand: how many links and images deep these may still nest, how many levels are left for pairs, and
 /// whether a link is around.
@@ -82,6 +79,10 @@ fn write_nest<'a>(
     ensures written { OnOk result ((ss : List Step) → out.new.items ++ joined source.now.text pen.new.pending ss ≡ out.old.items ++ joined source.now.text pen.old.pending (steps (nest source.now.text level.depth level.levels level.in_link leaves.now) ++ ss)) }
     ensures pen { OnOk result (IsPen source.now pen.new) }
 {
+    if !has_beginning(leaves) {
+        write_plain(alloc, source, leaves, pen, out)?;
+        return Ok(());
+    }
     let parts = parts_of(alloc, leaves, level)?;
     write_parts(alloc, source, parts.as_slice(), level, pen, out)?;
     Ok(())
@@ -165,16 +166,26 @@ fn write_part<'a>(
 {
     match part.group {
         None => write_alone(alloc, source, part.leaf, pen, out)?,
-        Some(group) => write_group(alloc, source, group, part.inside, level, pen, out)?,
+        Some(group) => write_group(
+            alloc,
+            source,
+            part.leaf.from,
+            group,
+            part.inside,
+            level,
+            pen,
+            out,
+        )?,
     }
     Ok(())
 }
 
-/// Writes a link or an image of leaves.
+/// Writes a link or an image of leaves, with its opener at a place.
 #[cycle(nest)]
 fn write_group<'a>(
     alloc: Global,
     source: &Source<'a, '_>,
+    opener: usize,
     group: Group,
     leaves: &[Leaf],
     level: Level,
@@ -187,7 +198,7 @@ fn write_group<'a>(
     ensures written { OnOk result ((ss : List Step) → out.new.items ++ joined source.now.text pen.new.pending ss ≡ out.old.items ++ joined source.now.text pen.old.pending (steps (unpaired source.now.text (inner source.now.text level.depth level.in_link (level.levels - 1)) (Grouped group.is_image group.target leaves.now) Empty) ++ ss)) }
     ensures pen { OnOk result (IsPen source.now pen.new) }
 {
-    open_group(source, group.is_image, group.target, pen, out)?;
+    open_group(source, opener, group.is_image, group.target, pen, out)?;
     write_inside(alloc, source, leaves, level, group.is_image, pen, out)?;
     close_group(source, group.is_image, pen, out)?;
     Ok(())
@@ -216,7 +227,7 @@ fn write_inside<'a>(
     Ok(())
 }
 
-/// The parts of leaves: where no link or image may stand, each leaf by itself.
+/// The parts of leaves: where no link or image may stand or begins, each leaf by itself.
 fn parts_of<'l>(
     alloc: Global,
     leaves: &'l [Leaf],
@@ -225,199 +236,11 @@ fn parts_of<'l>(
     ensures { IfOk result (λ v. v.items ≡ parts_of level.depth level.in_link leaves.now) }
 {
     if level.depth == 0 {
-        singles(alloc, leaves)
-    } else {
-        parts(alloc, level.in_link, leaves)
+        return singles(alloc, leaves);
     }
-}
-
-/// Writes what stands before the inside of a pair.
-fn open<'a>(
-    source: &Source<'a, '_>,
-    pair: Pair,
-    pen: &mut Pen,
-    out: &mut Vec<Event<'a>>,
-) -> Result<(), AllocError>
-    requires { IsPen source.now pen.old }
-    ensures written { OnOk result ((ss : List Step) → out.new.items ++ joined source.now.text pen.new.pending ss ≡ out.old.items ++ joined source.now.text pen.old.pending (opened pair.mark pair.size ++ ss)) }
-    ensures pen { OnOk result (IsPen source.now pen.new) }
-{
-    match pair.mark {
-        Mark::Star | Mark::Underscore => open_stress(source, pair.size, pen, out),
-        Mark::Tilde => {
-            if pair.size == 1 {
-                put_event(source, Event::Start(Tag::Subscript), pen, out)
-            } else {
-                put_event(source, Event::Start(Tag::Strikethrough), pen, out)
-            }
-        }
-        Mark::Caret => put_event(source, Event::Start(Tag::Superscript), pen, out),
+    if has_opener(leaves) {
+        return parts(alloc, level.in_link, leaves);
     }
-}
-
-/// Writes the starts of emphasis and strong.
-fn open_stress<'a>(
-    source: &Source<'a, '_>,
-    count: usize,
-    pen: &mut Pen,
-    out: &mut Vec<Event<'a>>,
-) -> Result<(), AllocError>
-    requires { IsPen source.now pen.old }
-    ensures written { OnOk result ((ss : List Step) → out.new.items ++ joined source.now.text pen.new.pending ss ≡ out.old.items ++ joined source.now.text pen.old.pending (stress_opened count ++ ss)) }
-    ensures pen { OnOk result (IsPen source.now pen.new) }
-{
-    if count == 1 {
-        put_event(source, Event::Start(Tag::Emphasis), pen, out)
-    } else if count == 2 {
-        put_event(source, Event::Start(Tag::Strong), pen, out)
-    } else {
-        put_event(source, Event::Start(Tag::Strong), pen, out)?;
-        put_event(source, Event::Start(Tag::Emphasis), pen, out)
-    }
-}
-
-/// Writes what stands behind the inside of a pair.
-fn close<'a>(
-    source: &Source<'a, '_>,
-    pair: Pair,
-    pen: &mut Pen,
-    out: &mut Vec<Event<'a>>,
-) -> Result<(), AllocError>
-    requires { IsPen source.now pen.old }
-    ensures written { OnOk result ((ss : List Step) → out.new.items ++ joined source.now.text pen.new.pending ss ≡ out.old.items ++ joined source.now.text pen.old.pending (closed pair.mark pair.size ++ ss)) }
-    ensures pen { OnOk result (IsPen source.now pen.new) }
-{
-    match pair.mark {
-        Mark::Star | Mark::Underscore => close_stress(source, pair.size, pen, out),
-        Mark::Tilde => {
-            if pair.size == 1 {
-                put_event(source, Event::End(TagEnd::Subscript), pen, out)
-            } else {
-                put_event(source, Event::End(TagEnd::Strikethrough), pen, out)
-            }
-        }
-        Mark::Caret => put_event(source, Event::End(TagEnd::Superscript), pen, out),
-    }
-}
-
-/// Writes the ends of emphasis and strong.
-fn close_stress<'a>(
-    source: &Source<'a, '_>,
-    count: usize,
-    pen: &mut Pen,
-    out: &mut Vec<Event<'a>>,
-) -> Result<(), AllocError>
-    requires { IsPen source.now pen.old }
-    ensures written { OnOk result ((ss : List Step) → out.new.items ++ joined source.now.text pen.new.pending ss ≡ out.old.items ++ joined source.now.text pen.old.pending (stress_closed count ++ ss)) }
-    ensures pen { OnOk result (IsPen source.now pen.new) }
-{
-    if count == 1 {
-        put_event(source, Event::End(TagEnd::Emphasis), pen, out)
-    } else if count == 2 {
-        put_event(source, Event::End(TagEnd::Strong), pen, out)
-    } else {
-        put_event(source, Event::End(TagEnd::Emphasis), pen, out)?;
-        put_event(source, Event::End(TagEnd::Strong), pen, out)
-    }
-}
-
-/// Writes the start of a link or an image, whose destination stands further on in the source.
-fn open_group<'a>(
-    source: &Source<'a, '_>,
-    is_image: bool,
-    target: Target,
-    pen: &mut Pen,
-    out: &mut Vec<Event<'a>>,
-) -> Result<(), AllocError>
-    requires target { IsText source.now.text target.from target.to }
-    requires pen { IsPen source.now pen.old }
-    ensures written { OnOk result ((ss : List Step) → out.new.items ++ joined source.now.text pen.new.pending ss ≡ out.old.items ++ joined source.now.text pen.old.pending (An (event.Start (group_tag is_image (slice_range source.now.text target.from target.to))) ∷ ss)) }
-    ensures pen { OnOk result (IsPen source.now pen.new) }
-{
-    let mut further = pen.cursor;
-    let text = source.text_at(target.from, target.to, &mut further);
-    let dest_url = CowStr::borrowed(text);
-    if is_image {
-        put_event(source, Event::Start(Tag::Image { dest_url }), pen, out)
-    } else {
-        put_event(source, Event::Start(Tag::Link { dest_url }), pen, out)
-    }
-}
-
-/// Writes the end of a link or an image.
-fn close_group<'a>(
-    source: &Source<'a, '_>,
-    is_image: bool,
-    pen: &mut Pen,
-    out: &mut Vec<Event<'a>>,
-) -> Result<(), AllocError>
-    requires { IsPen source.now pen.old }
-    ensures written { OnOk result ((ss : List Step) → out.new.items ++ joined source.now.text pen.new.pending ss ≡ out.old.items ++ joined source.now.text pen.old.pending (An (event.End (end_of (group_tag is_image []))) ∷ ss)) }
-    ensures pen { OnOk result (IsPen source.now pen.new) }
-{
-    if is_image {
-        put_event(source, Event::End(TagEnd::Image), pen, out)
-    } else {
-        put_event(source, Event::End(TagEnd::Link), pen, out)
-    }
-}
-
-/// Writes a leaf by itself.
-fn write_alone<'a>(
-    alloc: Global,
-    source: &Source<'a, '_>,
-    leaf: Leaf,
-    pen: &mut Pen,
-    out: &mut Vec<Event<'a>>,
-) -> Result<(), AllocError>
-    requires leaf { IsLeaf source.now.text leaf }
-    requires pen { IsPen source.now pen.old }
-    ensures written { OnOk result ((ss : List Step) → out.new.items ++ joined source.now.text pen.new.pending ss ≡ out.old.items ++ joined source.now.text pen.old.pending (alone_step source.now.text leaf.kind leaf.from leaf.to ∷ ss)) }
-    ensures pen { OnOk result (IsPen source.now pen.new) }
-{
-    match leaf.kind {
-        Kind::Escape => {
-            let place = Place {
-                from: leaf.from + 1,
-                to: leaf.to,
-            };
-            put_text(source, place, pen, out)
-        }
-        Kind::SoftBreak => put_event(source, Event::SoftBreak, pen, out),
-        Kind::HardBreak => put_event(source, Event::HardBreak, pen, out),
-        Kind::Code { ticks } => write_code(
-            alloc,
-            source,
-            leaf.from + ticks,
-            leaf.to.saturating_sub(ticks),
-            pen,
-            out,
-        ),
-        Kind::Text | Kind::Opener { .. } | Kind::Closer { .. } | Kind::Run { .. } => {
-            let place = Place {
-                from: leaf.from,
-                to: leaf.to,
-            };
-            put_text(source, place, pen, out)
-        }
-    }
-}
-
-/// Writes code, from the place between its backticks.
-fn write_code<'a>(
-    alloc: Global,
-    source: &Source<'a, '_>,
-    from: usize,
-    to: usize,
-    pen: &mut Pen,
-    out: &mut Vec<Event<'a>>,
-) -> Result<(), AllocError>
-    requires place { IsPlace source.now.text from to }
-    requires pen { IsPen source.now pen.old }
-    ensures written { OnOk result ((ss : List Step) → out.new.items ++ joined source.now.text pen.new.pending ss ≡ out.old.items ++ joined source.now.text pen.old.pending (An (event.Code (code_text (slice_range source.now.text from to))) ∷ ss)) }
-    ensures pen { OnOk result (IsPen source.now pen.new) }
-{
-    let mut further = pen.cursor;
-    let text = code_at(alloc, source, from, to, &mut further)?;
-    put_event(source, Event::Code(text), pen, out)
+    let singles = singles(alloc, leaves)?;
+    Ok(singles)
 }

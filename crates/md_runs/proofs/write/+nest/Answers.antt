@@ -1,4 +1,4 @@
-use Rattle.std.proofs.Common.{◌≡◌, ◌++◌, ◌∷◌, [], ◌+◌, ◌-◌, List, ℕ, rules, Some, None, length, length-drop, take, drop, ap, sym, subst, ◌∙◌, arith}
+use Rattle.std.proofs.Common.{false, ◌≡◌, ◌++◌, ◌∷◌, [], ◌+◌, ◌-◌, List, ℕ, rules, Some, None, length, length-drop, take, drop, ap, sym, subst, ◌∙◌, arith}
 use Rattle.std.specs.List.{slice_range}
 use Rattle.md_tree.specs.declared.event.Event.TheVariants as event
 use Rattle.md_tree.specs.Tree.{end_of}
@@ -15,6 +15,9 @@ use Rattle.md_runs.proofs.GoneLemmas.{gone-here, gone-far}
 use Rattle.md_runs.proofs.PairSteps.{nest-parts, steps-alone, steps-styled, steps-group, inner-none, turn, three-turns}
 use Rattle.md_runs.proofs.PartFacts.{AreParts-drop, AreParts-get, AreParts-parts_of}
 use Rattle.md_runs.proofs.Turns.{begins, pair-turn, pair-within, part-turn, no-turn}
+use Rattle.std.specs.List.{list_any}
+use Rattle.md_runs.specs.Plain.{leaf_begins_element}
+use Rattle.md_runs.proofs.PlainSteps.{steps-plain}
 use Rattle.md_runs.proofs.write.+nest.Goals as goal
 
 pub write_nest-write_parts-requires : goal.write_nest-write_parts-requires
@@ -153,3 +156,10 @@ pub write_inside-returns-then-level-eq0-clause-written : goal.write_inside-retur
 write_inside-returns-then-level-eq0-clause-written t c = λ ss.
     ap (λ x. c.args.out.now.items ++ joined c.args.source.now.text c.args.pen.now.pending (x ++ ss))
     (sym (inner-none c.args.source.now.text c.args.level.depth c.args.level.in_link (c.args.level.levels - 1) c.args.is_image c.args.leaves.now c.if-level-eq0.true))
+
+pub write_nest-returns-then-not-has_beginning-clause-written : goal.write_nest-returns-then-not-has_beginning-clause-written
+write_nest-returns-then-not-has_beginning-clause-written t c = λ ss.
+    let none : list_any leaf_begins_element c.args.leaves.now ≡ false = sym c.if-not-has_beginning.ensures in
+    c.in_ok-write_plain.ensures.written ss
+    ∙ ap (λ x. c.args.out.now.items ++ joined c.args.source.now.text c.args.pen.now.pending (x ++ ss))
+    (sym (steps-plain c.args.source.now.text c.args.level.depth c.args.level.levels c.args.level.in_link c.args.leaves.now none))
