@@ -5,3 +5,4 @@ pub mod BracedLemmas
 pub mod CodeLemmas
 pub mod ItemLemmas
 pub mod ListLemmas
+pub mod Filled

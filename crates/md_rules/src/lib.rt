@@ -18,6 +18,6 @@ pub use fence::{Fence, fence_of};
 pub use heading::{Heading, heading_level, heading_of};
 pub use item::{Marker, item_interrupts, item_lines, marker_of, task_of};
 pub use list::{begins_leaf, is_loose, list_more, next_item};
-pub use quote::{alert_of, quoted, quotes};
+pub use quote::{first_alert, is_dashes, quoted, quotes, without_kind};
 pub use rule::is_rule;
 pub use texts::run_length;

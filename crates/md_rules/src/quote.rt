@@ -1,7 +1,7 @@
 // Quotes and alerts.
-ghost use Rattle.std.specs.Prelude.{◌≡◌, IfOk, IsTrue};
-ghost use Rattle.md_rules.specs.Texts.{begins_with};
-ghost use Rattle.md_rules.specs.Quotes.{alert_of, is_same, kind_of, less, quoted, quotes, unquoted};
+ghost use Rattle.std.specs.Prelude.{◌≡◌, codes, IfOk, IsTrue};
+ghost use Rattle.md_rules.specs.Texts.{begins_with, trimmed};
+ghost use Rattle.md_rules.specs.Quotes.{alert_of, first_alert, is_same, kind_of, less, quoted, quotes, unquoted, without_kind};
 
 use crate::shallow::is_shallow;
 use crate::texts::{after_first, trimmed};
@@ -65,6 +65,13 @@ fn is_same(text: &str, other: &str) -> bool
     text.eq_ignore_ascii_case(other)
 }
 
+/// Whether the body is `---`, blanks at its ends aside.
+pub fn is_dashes(body: &str) -> bool
+    ensures { result ≡ is_same (trimmed body.now) (codes "---") }
+{
+    is_same(trimmed(body), "---")
+}
+
 /// The kind of alert that a text names.
 fn kind_of(text: &str) -> Option<BlockQuoteKind>
     ensures { result ≡ kind_of text.now }
@@ -85,11 +92,33 @@ fn kind_of(text: &str) -> Option<BlockQuoteKind>
 }
 
 /// The kind of the alert whose first line, without its mark, this is, or `None` where it names none.
-pub fn alert_of(line: &Line) -> Option<BlockQuoteKind>
+fn alert_of(line: &Line) -> Option<BlockQuoteKind>
     ensures { result ≡ alert_of line.now }
 {
     if !is_shallow(line) {
         return None;
     }
     kind_of(trimmed(line.body))
+}
+
+/// The kind of alert that the lines of a quote, without their marks, begin with, or `None` where they begin with none.
+pub fn first_alert(lines: &[Line]) -> Option<BlockQuoteKind>
+    ensures { result ≡ first_alert lines.now }
+{
+    if lines.is_empty() {
+        None
+    } else {
+        alert_of(&lines[0])
+    }
+}
+
+/// The lines of a quote without the one that names the kind of an alert.
+pub fn without_kind<'b, 'a>(kind: Option<BlockQuoteKind>, lines: &'b [Line<'a>]) -> &'b [Line<'a>]
+    ensures { result.now ≡ without_kind kind lines.now }
+{
+    if kind.is_some() && lines.len() > 0 {
+        &lines[1..]
+    } else {
+        lines
+    }
 }

@@ -1,4 +1,4 @@
-use Rattle.std.proofs.Common.{rules, arith, [], ◌∷◌, Bool, false, cond, suc, refl, ◌+◌, ◌≡◌, ℕ, List, ◌<◌, ◌≤◌, ◌^◌, ◌-◌, length, take, true, ap, sym, subst, ◌∙◌}
+use Rattle.std.proofs.Common.{arith, ◌≡◌, ℕ, List, ◌<◌, ◌≤◌, ◌^◌, ◌-◌, length, take, true, ap, sym, subst, ◌∙◌}
 use Rattle.std.specs.Prelude.{Result, Ok, Err}
 use Rattle.std.specs.Str.{IsCharBoundary}
 use Rattle.std.specs.Str.Parse.{digits_value, ParsesUnsigned}
@@ -6,25 +6,15 @@ use Rattle.std.specs.List.{list_all, prefix_len, slice_range}
 use Rattle.std.specs.Char.{is_ascii_digit}
 use Rattle.std.proofs.lemmas.List.{length-take-le}
 use Rattle.std.proofs.lemmas.List.Sums.{prefix_len-le-length}
-use Rattle.std.proofs.lemmas.Str.Parse.{IsNumeralModel, digits_value_short, numerals_by_value, parse_gives}
+use Rattle.std.proofs.lemmas.Str.Parse.{digits_value_short, parse_gives}
 use Rattle.std.proofs.lemmas.Bool.Decides.{nat_tests}
 use Rattle.md_rules.specs.Items.{digits}
+use Rattle.md_rules.proofs.ItemLemmas.{front-all, own}
 use Rattle.md_rules.proofs.TextLemmas.{boundary-front}
 use Rattle.md_rules.proofs.item.number.Goals as goal
 
-own : IsNumeralModel (λ ds. list_all is_ascii_digit ds ≡ true) (digits_value 10)
-own = numerals_by_value _ (search rules)
-
 ascii : (b : ℕ) → is_ascii_digit b ≡ true → b < 128
 ascii b e = grind (arith, nat_tests)
-
-front-all : (p : ℕ → Bool) (xs : List ℕ) → list_all p (take (prefix_len p xs) xs) ≡ true
-front-all p [] = refl
-front-all p (x ∷ xs) = go (p x) refl (front-all p xs)
-  where
-    go : (v : Bool) → p x ≡ v → list_all p (take (prefix_len p xs) xs) ≡ true → list_all p (take (cond v (1 + prefix_len p xs) 0) (x ∷ xs)) ≡ true
-    go true e h = let next : 1 + prefix_len p xs ≡ suc (prefix_len p xs) = omega arith in ap (λ n. list_all p (take n (x ∷ xs))) next ∙ rw (e, h) refl
-    go false e h = refl
 
 -- one to nine digits are read as their number
 parses : {E : Type 0} (body : List ℕ) (count : ℕ) (r : Result ℕ E) → count ≡ digits body → 0 < count → count ≤ 9 → ParsesUnsigned 64 10 (slice_range body 0 count) r → r ≡ Ok (digits_value 10 (take count body))
