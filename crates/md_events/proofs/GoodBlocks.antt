@@ -1,50 +1,55 @@
 -- The blocks of lines are good.
-use Rattle.std.proofs.Common.{List, [], ◌∷◌, ◌≡◌, ℕ, zero, suc, refl, true, false, cond, ◌&&◌, map, take, Option, None, Some}
-use Rattle.md_lines.specs.Lines.{LineText, body_of, is_empty}
+use Rattle.std.proofs.Common.{List, [], ◌∷◌, ◌≡◌, ◌≤◌, ◌<◌, ◌+◌, ◌*◌, ◌-◌, ◌^◌, ◌==◌, length, ℕ, zero, suc, refl, sym, ap, ◌∙◌, arith, true, false, Bool, cond, not, ◌&&◌, map, take, drop, Option, None, Some}
+use Rattle.std.proofs.lemmas.Bool.{eqb-true, false≢true}
+use Rattle.std.proofs.lemmas.Bool.Decides.{nat_tests}
+use Rattle.md_tree.specs.declared.event.CodeBlockKind.{CodeBlockKind}
 use Rattle.md_tree.specs.declared.event.Event.TheVariants as event
-use Rattle.md_tree.specs.Tree.{Nodes}
-use Rattle.md_tree.specs.Tree as nodes
-use Rattle.md_tree.specs.Good.{good_at, document_place, level_of}
+use Rattle.md_tree.specs.declared.event.Tag.TheVariants as tag
+use Rattle.md_tree.specs.declared.place.Holds.{Holds}
 use Rattle.md_tree.specs.declared.place.Holds.TheVariants as level
+use Rattle.md_tree.specs.declared.place.Numbers.{Numbers}
+use Rattle.md_tree.specs.declared.place.Numbers.TheVariants.{Free, Next, Full}
+use Rattle.md_tree.specs.declared.place.Place.{Place}
+use Rattle.md_tree.specs.Tree.{Nodes, Empty, Branch}
+use Rattle.md_tree.specs.Tree as nodes
+use Rattle.md_tree.specs.Good.{good_at, holds_blocks, level_of, numbers_after, numbers_from}
+use Rattle.md_tree.proofs.Nodes.{and_both, good_at-level}
+use Rattle.md_lines.specs.Lines.{LineText, is_empty, lines_of}
 use Rattle.md_inline.specs.Inlines.{inlines}
 use Rattle.md_inline.proofs.GoodInlines.{inlines-good}
 use Rattle.md_rules.specs.declared.heading.Heading.{Heading}
-use Rattle.md_rules.specs.Headings.{heading_of}
-use Rattle.md_rules.specs.declared.fence.Fence.{Fence}
-use Rattle.md_rules.specs.Code.{hanging, is_code, text_from}
-use Rattle.md_rules.specs.Fences.{fence_of, fenced}
-use Rattle.md_events.specs.Node.{Node, Block, node_then, or_else, or_rule}
-use Rattle.md_events.specs.CodeBlocks.{code_lines, fence_block, indented, text_then}
-use Rattle.md_events.specs.LeafBlocks.{heading_block, leaf_block}
-use Rattle.md_events.specs.Blocks.{block, blocks_after, paragraph, paragraph_more}
+use Rattle.md_rules.specs.declared.item.Marker.{Marker}
+use Rattle.md_rules.specs.Code.{text_from}
+use Rattle.md_rules.specs.Items.{item_column, item_line, item_lines, item_more, marker_of, task_of}
+use Rattle.md_rules.specs.Lists.{is_loose, next_item}
+use Rattle.md_rules.specs.Quotes.{first_alert, quoted, quotes}
+use Rattle.md_rules.proofs.Filled.{filled, filled-drop, filled-first, filled-item, filled-later, filled-lines_of, filled-quoted, filled-take, filled-without_kind}
+use Rattle.md_rules.proofs.ItemLemmas.{marker-small}
+use Rattle.md_events.specs.Node.{Node, Single, Element, Run, node_then}
+use Rattle.md_events.specs.CodeBlocks.{code_lines, text_then}
+use Rattle.md_events.specs.LeafBlocks.{heading_node}
+use Rattle.md_events.specs.Containers.{in_item, inside_quote, item_then, items, list, list_lines, quote}
+use Rattle.md_events.specs.Blocks.{block, blocks, blocks_after, tree}
+use Rattle.md_events.proofs.GoodPlaces.{inlines-mixed, with_task-good}
+use Rattle.md_events.proofs.RuleSteps.{block-node}
 
--- a node before good blocks is good
-abbrev KeepsGood : Node → Type 0
-KeepsGood node = (rest : Nodes) → good_at document_place rest ≡ true → good_at document_place (node_then node rest) ≡ true
+-- the most nonempty lines of a text whose length fits 64 bits
+abbrev most : ℕ
+most = 2 ^ 63
 
--- what a rule answers is good
-abbrev AnswersGood : Option Block → Type 0
-AnswersGood None = Unit {0}
-AnswersGood (Some block) = KeepsGood block.node
+-- paragraphs are runs of inlines in items alone
+abbrev MayRead : Holds → Bool → Type 0
+MayRead level.Blocks tight = tight ≡ false
+MayRead level.Mixed tight = Unit {0}
+MayRead _ tight = ⊥
 
-or_else-good : (rule : Option Block) (others : Block) → AnswersGood rule → KeepsGood others.node → KeepsGood (or_else rule others).node
-or_else-good None others here there = there
-or_else-good (Some block) others here there = here
+-- a reader of containers gives good nodes
+abbrev ReadsGood : (Bool → List LineText → Nodes) → Type 0
+ReadsGood read = (h : Holds) (tight : Bool) → MayRead h tight → (lines : List LineText) → filled lines ≤ most → good_at (level_of h) (read tight lines) ≡ true
 
--- inlines in an element before good blocks
-inlines-then-good : (bodies : List (List ℕ)) (rest : Nodes) → good_at document_place rest ≡ true → (good_at (level_of level.Inlines) (inlines bodies) && good_at document_place rest) ≡ true
-inlines-then-good bodies rest good = rw (inlines-good bodies, good) refl
-
-paragraph-good : (line : LineText) (later : List LineText) → KeepsGood (paragraph line later).node
-paragraph-good line later = λ rest good. inlines-then-good (map body_of (line ∷ take (paragraph_more later) later)) rest good
-
-heading-good : (heading : Option Heading) → AnswersGood (heading_block heading)
-heading-good None = tt
-heading-good (Some h) = λ rest good. inlines-then-good (h.content.body ∷ []) rest good
-
-or_rule-good : (rule others : Option Block) → AnswersGood rule → AnswersGood others → AnswersGood (or_rule rule others)
-or_rule-good None others here there = there
-or_rule-good (Some block) others here there = here
+-- a node keeps good nodes behind it good
+abbrev KeepsGood : Holds → Bool → Node → Type 0
+KeepsGood h tight node = (rest : Nodes) → good_at (level_of h) rest ≡ true → good_at (level_of h) (node_then tight node rest) ≡ true
 
 text_then-good : (text : List ℕ) (rest : Nodes) → good_at (level_of level.CodeTexts) rest ≡ true → good_at (level_of level.CodeTexts) (text_then text rest) ≡ true
 text_then-good [] rest good = good
@@ -56,32 +61,146 @@ code_lines-good column [] = refl
 code_lines-good column (line ∷ lines) =
     text_then-good (text_from column line) (nodes.Leaf (event.Text (10 ∷ [])) (code_lines column lines)) (code_lines-good column lines)
 
-code-then-good : (column : ℕ) (lines : List LineText) (rest : Nodes) → good_at document_place rest ≡ true → (good_at (level_of level.CodeTexts) (code_lines column lines) && good_at document_place rest) ≡ true
-code-then-good column lines rest good = rw (code_lines-good column lines, good) refl
+-- the numbers from this one on are enough for so many items
+abbrev Fits : Numbers → ℕ → Type 0
+Fits Free k = Unit {0}
+Fits (Next n) k = n + k ≤ 2 ^ 64
+Fits Full k = k ≡ 0
 
-indented-good : (line : LineText) (later : List LineText) → KeepsGood (indented line later).node
-indented-good line later = λ rest good. code-then-good 4 (line ∷ take (hanging 4 later) later) rest good
+Fits-less : (numbers : Numbers) (k m : ℕ) → m ≤ k → Fits numbers k → Fits numbers m
+Fits-less Free k m le fits = tt
+Fits-less (Next n) k m le fits = omega arith
+Fits-less Full k m le fits = omega arith
 
-fence-good : (fence : Option Fence) (later : List LineText) → AnswersGood (fence_block fence later)
-fence-good None later = tt
-fence-good (Some fence) later = λ rest good. code-then-good fence.indent (take (fenced fence later) later) rest good
+Fits-after : (numbers : Numbers) (k : ℕ) → Fits numbers (suc k) → Fits (numbers_after numbers) k
+Fits-after Free k fits = tt
+Fits-after Full k fits = absurd (omega arith)
+Fits-after (Next n) k fits = go (n == 2 ^ 64 - 1) refl
+  where
+    go : (v : Bool) → (n == 2 ^ 64 - 1) ≡ v → Fits (cond v Full (Next (n + 1))) k
+    go true e = let last : n ≡ 2 ^ 64 - 1 = eqb-true n (2 ^ 64 - 1) e in omega arith
+    go false e = omega arith
 
-leaf-good : (line : LineText) (later : List LineText) → AnswersGood (leaf_block line later)
-leaf-good line later =
-    elim (is_code line) as (λ v. AnswersGood (cond v (Some (indented line later)) (or_rule (fence_block (fence_of line) later) (heading_block (heading_of line))))) [
-      | true ↦ indented-good line later
-      | false ↦ or_rule-good (fence_block (fence_of line) later) (heading_block (heading_of line)) (fence-good (fence_of line) later) (heading-good (heading_of line))
-    ]
+abbrev among_items : Numbers → Place
+among_items numbers = record { holds = level.Items; in_link = false; numbers = numbers; task_mark = false }
 
-block-good : (line : LineText) (later : List LineText) → KeepsGood (block line later).node
-block-good line later = or_else-good (leaf_block line later) (paragraph line later) (leaf-good line later) (paragraph-good line later)
+-- an item before good items
+item-good : (numbers : Numbers) (k : ℕ) (inside rest : Nodes) → Fits numbers (suc k) → good_at (record { holds = level.Mixed; in_link = false; numbers = Free; task_mark = true }) inside ≡ true → good_at (among_items (numbers_after numbers)) rest ≡ true → good_at (among_items numbers) (Branch tag.Item inside rest) ≡ true
+item-good Free k inside rest fits g h = and_both _ _ g h
+item-good (Next n) k inside rest fits g h = and_both _ _ g h
+item-good Full k inside rest fits g h = absurd (omega arith)
 
-pub blocks_after-good : (n : ℕ) (lines : List LineText) → good_at document_place (blocks_after n lines) ≡ true
+in_item-good : (read : Bool → List LineText → Nodes) → ReadsGood read → (tight : Bool) (marker : Marker) (line : LineText) (later : List LineText) (n : ℕ) → is_empty line ≡ false → filled (line ∷ later) ≤ most → good_at (record { holds = level.Mixed; in_link = false; numbers = Free; task_mark = true }) (in_item read tight marker line (take n later)) ≡ true
+in_item-good read good tight marker line later n e small =
+    let lines : List LineText = item_lines (item_column marker line) (item_line marker line) (take n later) in
+    let le : filled lines ≤ most = omega (arith, filled-item (item_column marker line) (item_line marker line) (take n later), filled-take n later, filled-first line later e) in
+    with_task-good tight (task_of (item_line marker line)) (read tight lines) (good level.Mixed tight tt lines le)
+
+items-good : (read : Bool → List LineText → Nodes) → ReadsGood read → (tight : Bool) (kind n : ℕ) (lines : List LineText) (numbers : Numbers) → Fits numbers (filled lines) → filled lines ≤ most → good_at (among_items numbers) (items read tight kind n lines) ≡ true
+unfolding items
+items-good read good tight kind n [] numbers fits small = refl
+items-good read good tight kind (suc n) (line ∷ later) numbers fits small =
+    items-good read good tight kind n later numbers (Fits-less numbers (filled (line ∷ later)) (filled later) (filled-later line later) fits) (omega (arith, filled-later line later))
+items-good read good tight kind zero (line ∷ later) numbers fits small =
+    go (is_empty line) refl
+    (items-good read good tight kind zero later numbers (Fits-less numbers (filled (line ∷ later)) (filled later) (filled-later line later) fits) (omega (arith, filled-later line later)))
+    (λ m next fit. items-good read good tight kind m later next fit (omega (arith, filled-later line later)))
+  where
+    found : Option Marker → Nodes
+    found m = item_then m (λ marker. in_item read tight marker line (take (item_more marker line later) later)) (λ marker. items read tight kind (item_more marker line later) later)
+
+    at : (m : Option Marker) → is_empty line ≡ false → ((k : ℕ) (next : Numbers) → Fits next (filled later) → good_at (among_items next) (items read tight kind k later) ≡ true) → good_at (among_items numbers) (found m) ≡ true
+    at None e more = refl
+    at (Some marker) e more =
+        let fit : Fits numbers (suc (filled later)) = Fits-less numbers (filled (line ∷ later)) (suc (filled later)) (omega (arith, filled-first line later e)) fits in
+        item-good numbers (filled later) (in_item read tight marker line (take (item_more marker line later) later)) (items read tight kind (item_more marker line later) later) fit
+        (in_item-good read good tight marker line later (item_more marker line later) e small)
+        (more (item_more marker line later) (numbers_after numbers) (Fits-after numbers (filled later) fit))
+
+    go : (v : Bool) → is_empty line ≡ v → good_at (among_items numbers) (items read tight kind 0 later) ≡ true → ((k : ℕ) (next : Numbers) → Fits next (filled later) → good_at (among_items next) (items read tight kind k later) ≡ true) → good_at (among_items numbers) (cond v (items read tight kind 0 later) (found (next_item kind line))) ≡ true
+    go true e passed more = passed
+    go false e passed more = at (next_item kind line) e more
+
+first-fits : (line : LineText) (marker : Marker) (k : ℕ) → marker_of line ≡ Some marker → k ≤ most → Fits (numbers_from marker.number) k
+first-fits line marker k e le = go marker.number refl
+  where
+    go : (number : Option ℕ) → marker.number ≡ number → Fits (numbers_from number) k
+    go None f = tt
+    go (Some v) f = omega (arith, marker-small line marker v e f)
+
+-- what stands between good nodes
+three : (a b c : Bool) → a ≡ true → b ≡ true → c ≡ true → (a && (b && c)) ≡ true
+three a b c p q r = rw (p, q, r) refl
+
+run-good : (h : Holds) (tight : Bool) → MayRead h tight → holds_blocks h ≡ true → (bodies : List (List ℕ)) → KeepsGood h tight (Run (inlines bodies))
+run-good h false may stands bodies = λ rest good. three (holds_blocks h) _ _ stands (inlines-good bodies) good
+run-good level.Mixed true may stands bodies = λ rest good. good_at-level level.Mixed (inlines bodies) rest refl (inlines-mixed (inlines bodies) (inlines-good bodies)) good
+run-good level.Blocks true may stands bodies = absurd (false≢true (sym may))
+run-good level.Items true may stands bodies = absurd may
+run-good level.Entries true may stands bodies = absurd may
+run-good level.Head true may stands bodies = absurd may
+run-good level.Rows true may stands bodies = absurd may
+run-good level.Cells true may stands bodies = absurd may
+run-good level.Inlines true may stands bodies = absurd may
+run-good level.CodeTexts true may stands bodies = absurd may
+run-good level.HtmlTexts true may stands bodies = absurd may
+run-good level.MetadataTexts true may stands bodies = absurd may
+
+block-good : (h : Holds) (tight nests : Bool) (read : Bool → List LineText → Nodes) → MayRead h tight → holds_blocks h ≡ true → ReadsGood read → (line : LineText) (later : List LineText) → filled (line ∷ later) ≤ most → KeepsGood h tight (block nests read line later).node
+block-good h tight nests read may stands good line later small =
+    block-node (KeepsGood h tight) nests read line later
+    (record {
+      heading = λ heading rest g. three (holds_blocks h) _ _ stands (inlines-good (heading.content.body ∷ [])) g;
+      rule = λ rest g. and_both (holds_blocks h) _ stands g;
+      code = λ kind column lines rest g. three (holds_blocks h) _ _ stands (code_lines-good column lines) g;
+    })
+    (record {
+      quote = λ e rest g. three (holds_blocks h) _ _ stands (quote_inside (quoted (line ∷ later)) (omega (arith, filled-quoted (line ∷ later)))) g;
+      list = λ marker e rest g. three (holds_blocks h) _ _ stands
+          (items-good read good (not (is_loose (take (list_lines marker line later) later))) marker.kind 0 (line ∷ later) (numbers_from marker.number) (first-fits line marker (filled (line ∷ later)) e small) small) g;
+    })
+    (λ bodies. run-good h tight may stands bodies)
+  where
+    quote_inside : (lines : List LineText) → filled lines ≤ most → good_at (level_of level.Blocks) (read false (inside_quote lines)) ≡ true
+    quote_inside lines le = good level.Blocks false refl (inside_quote lines) (omega (arith, filled-without_kind (first_alert lines) lines))
+
+blocks_after-good : (h : Holds) (tight nests : Bool) (read : Bool → List LineText → Nodes) → MayRead h tight → holds_blocks h ≡ true → good_at (level_of h) Empty ≡ true → ReadsGood read → (n : ℕ) (lines : List LineText) → filled lines ≤ most → good_at (level_of h) (blocks_after nests read tight n lines) ≡ true
 unfolding blocks_after
-blocks_after-good n [] = refl
-blocks_after-good (suc n) (line ∷ later) = blocks_after-good n later
-blocks_after-good zero (line ∷ later) =
-    let passed = blocks_after-good zero later in
-    let more : ℕ = (block line later).more in
-    let here = block-good line later (blocks_after more later) (blocks_after-good more later) in
-    elim (is_empty line) as (λ v. good_at document_place (cond v (blocks_after zero later) (node_then (block line later).node (blocks_after more later))) ≡ true) [ true ↦ passed | false ↦ here ]
+blocks_after-good h tight nests read may stands ends good n [] small = ends
+blocks_after-good h tight nests read may stands ends good (suc n) (line ∷ later) small =
+    blocks_after-good h tight nests read may stands ends good n later (omega (arith, filled-later line later))
+blocks_after-good h tight nests read may stands ends good zero (line ∷ later) small =
+    let le : filled later ≤ most = omega (arith, filled-later line later) in
+    let more : ℕ = (block nests read line later).more in
+    let passed = blocks_after-good h tight nests read may stands ends good zero later le in
+    let here = block-good h tight nests read may stands good line later small (blocks_after nests read tight more later) (blocks_after-good h tight nests read may stands ends good more later le) in
+    elim (is_empty line) as (λ v. good_at (level_of h) (cond v (blocks_after nests read tight zero later) (node_then tight (block nests read line later).node (blocks_after nests read tight more later))) ≡ true) [ true ↦ passed | false ↦ here ]
+
+may-stand : (h : Holds) (tight : Bool) → MayRead h tight → holds_blocks h ≡ true
+may-stand level.Blocks tight may = refl
+may-stand level.Mixed tight may = refl
+may-stand level.Items tight may = absurd may
+may-stand level.Entries tight may = absurd may
+may-stand level.Head tight may = absurd may
+may-stand level.Rows tight may = absurd may
+may-stand level.Cells tight may = absurd may
+may-stand level.Inlines tight may = absurd may
+may-stand level.CodeTexts tight may = absurd may
+may-stand level.HtmlTexts tight may = absurd may
+may-stand level.MetadataTexts tight may = absurd may
+
+may-end : (h : Holds) (tight : Bool) → MayRead h tight → good_at (level_of h) Empty ≡ true
+may-end level.Head tight may = absurd may
+may-end h tight may = refl
+
+empty-good : ReadsGood (λ tight lines. Empty)
+empty-good = λ h tight may lines small. may-end h tight may
+
+blocks-good : (n : ℕ) → ReadsGood (blocks n)
+unfolding blocks
+blocks-good zero = λ h tight may lines small. blocks_after-good h tight false (λ t ls. Empty) may (may-stand h tight may) (may-end h tight may) empty-good 0 lines small
+blocks-good (suc n) = λ h tight may lines small. blocks_after-good h tight true (λ t ls. blocks n t ls) may (may-stand h tight may) (may-end h tight may) (blocks-good n) 0 lines small
+
+-- the tree of a text whose length fits 64 bits is good
+pub tree-good : (text : List ℕ) → length text < 2 ^ 64 → good_at (level_of level.Blocks) (tree text) ≡ true
+tree-good text small = blocks-good 32 level.Blocks false refl (lines_of text) (omega (arith, filled-lines_of text))

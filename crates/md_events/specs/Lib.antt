@@ -15,9 +15,14 @@ pub use Rattle.md_rules.specs.Attributes
 pub use Rattle.md_rules.specs.Headings
 pub use Rattle.md_rules.specs.Code
 pub use Rattle.md_rules.specs.Fences
+pub use Rattle.md_rules.specs.Rules
+pub use Rattle.md_rules.specs.Quotes
+pub use Rattle.md_rules.specs.Items
+pub use Rattle.md_rules.specs.Lists
 pub mod Node
 pub mod CodeBlocks
 pub mod LeafBlocks
+pub mod Containers
 pub mod Blocks
 pub mod Written
 pub mod Built

@@ -1,5 +1,5 @@
 // Blocks of code.
-ghost use Rattle.std.specs.Prelude.{◌≡◌, ◌++◌, ◌+◌, ◌<◌, ◌≤◌, IfOk, OnOk, length};
+ghost use Rattle.std.specs.Prelude.{◌≡◌, ◌++◌, ◌+◌, ◌<◌, ◌≤◌, IfOk, OnOk, length, false};
 ghost use Rattle.md_tree.specs.Tree.{Empty, events};
 ghost use Rattle.md_events.specs.Node.{Element, block_events, node_then};
 ghost use Rattle.md_events.specs.CodeBlocks.{code_line, code_lines};
@@ -20,7 +20,7 @@ pub(crate) fn write_indented<'a>(
     out: &mut Vec<Event<'a>>,
 ) -> Result<usize, AllocError>
     requires { 0 < length lines.now }
-    ensures written { OnOk result (out.new.items ≡ out.old.items ++ block_events (first_indented lines.now)) }
+    ensures written { OnOk result (out.new.items ≡ out.old.items ++ block_events false (first_indented lines.now)) }
     ensures lines { IfOk result (λ n. n ≡ (first_indented lines.now).more + 1) }
     ensures within { IfOk result (λ n. n ≤ length lines.now) }
 {
@@ -59,7 +59,7 @@ fn write_code<'a>(
     lines: &[Line<'a>],
     out: &mut Vec<Event<'a>>,
 ) -> Result<(), AllocError>
-    ensures { OnOk result (out.new.items ≡ out.old.items ++ events (node_then (Element (tag.CodeBlock kind.entry) (code_lines column lines.now)) Empty)) }
+    ensures { OnOk result (out.new.items ≡ out.old.items ++ events (node_then false (Element (tag.CodeBlock kind.entry) (code_lines column lines.now)) Empty)) }
 {
     out.push(Event::Start(Tag::CodeBlock(kind)))?;
     write_code_lines(alloc, column, lines, out)?;

@@ -1,24 +1,22 @@
 // The forms of the dialect that are built.
 ghost use Rattle.std.specs.Prelude.{◌≡◌};
-ghost use Rattle.std.specs.List.{list_all, list_any};
+ghost use Rattle.std.specs.List.{list_any};
 ghost use Rattle.md_lines.specs.Lines.{lines_of};
-ghost use Rattle.md_events.specs.Built.{begins_unbuilt, built, has_pair, is_mark, is_star, is_unbuilt, is_unbuilt_line};
+ghost use Rattle.md_events.specs.Built.{begins_metadata, built, has_pair, has_unbuilt_pair, is_unbuilt};
 
-use md_lines::{Line, is_blank, line_of};
+use md_lines::line_of;
+use md_rules::is_dashes;
 use term_text::next_line;
 
 /// Whether all forms of the text are built. Takes no memory.
 ///
-/// It is false exactly where the text holds `$`, `<`, `|`, `![` or `[^`, or where a nonempty line's body begins with
-/// `>`, `-`, `+`, `:`, an ASCII digit, or `*` and a blank, or consists of `*`, `_` and blanks alone.
+/// It is false exactly where the text holds `$`, `<`, `|`, `![`, `[^`, or a `:` directly followed by a blank, or where
+/// its first line has indent 0 and the trimmed body `---`.
 pub fn built(text: &str) -> bool
     ensures { result ≡ built text.now }
 {
     let bytes = text.as_bytes();
-    !has_unbuilt_byte(bytes)
-        && !has_pair(b'!', b'[', bytes)
-        && !has_pair(b'[', b'^', bytes)
-        && !has_unbuilt_line(text)
+    !has_unbuilt_byte(bytes) && !has_unbuilt_pair(bytes) && !begins_metadata(text)
 }
 
 fn has_unbuilt_byte(bytes: &[u8]) -> bool
@@ -32,6 +30,15 @@ fn is_unbuilt(b: u8) -> bool
     ensures { result ≡ is_unbuilt b }
 {
     matches!(b, b'$' | b'<' | b'|')
+}
+
+fn has_unbuilt_pair(bytes: &[u8]) -> bool
+    ensures { result ≡ has_unbuilt_pair bytes.now }
+{
+    has_pair(b'!', b'[', bytes)
+        || has_pair(b'[', b'^', bytes)
+        || has_pair(b':', b' ', bytes)
+        || has_pair(b':', b'\t', bytes)
 }
 
 /// Whether these two bytes stand somewhere, one behind the other.
@@ -48,51 +55,14 @@ fn has_pair(first: u8, second: u8, bytes: &[u8]) -> bool
     false
 }
 
-/// Whether a line of the text begins a form that is not built.
-fn has_unbuilt_line(text: &str) -> bool
-    ensures { result ≡ list_any is_unbuilt_line (lines_of text.now) }
+/// Whether the text begins as metadata does.
+fn begins_metadata(text: &str) -> bool
+    ensures { result ≡ begins_metadata (lines_of text.now) }
 {
-    let mut rest = text;
-    while !rest.is_empty() {
-        let (line, after) = next_line(rest);
-        if is_unbuilt_line(&line_of(line)) {
-            return true;
-        }
-        rest = after;
-    }
-    false
-}
-
-fn is_unbuilt_line(line: &Line) -> bool
-    ensures { result ≡ is_unbuilt_line line.now }
-{
-    let body = line.body.as_bytes();
-    !line.is_empty() && (begins_unbuilt(body) || has_stars_alone(body))
-}
-
-fn begins_unbuilt(body: &[u8]) -> bool
-    ensures { result ≡ begins_unbuilt body.now }
-{
-    if body.is_empty() {
+    if text.is_empty() {
         return false;
     }
-    is_mark(body[0]) || body[0] == b'*' && body.len() > 1 && is_blank(body[1])
-}
-
-fn is_mark(b: u8) -> bool
-    ensures { result ≡ is_mark b }
-{
-    matches!(b, b'>' | b'-' | b'+' | b':') || b.is_ascii_digit()
-}
-
-fn has_stars_alone(body: &[u8]) -> bool
-    ensures { result ≡ list_all is_star body.now }
-{
-    body.iter().all(|b| is_star(*b))
-}
-
-fn is_star(b: u8) -> bool
-    ensures { result ≡ is_star b }
-{
-    b == b'*' || b == b'_' || is_blank(b)
+    let (first, _) = next_line(text);
+    let line = line_of(first);
+    line.indent == 0 && is_dashes(line.body)
 }

@@ -1,14 +1,14 @@
 // Blocks that are no containers.
-ghost use Rattle.std.specs.Prelude.{◌≡◌, ◌++◌, ◌+◌, ◌<◌, ◌≤◌, IfOk, OnOk, length, IfSome};
+ghost use Rattle.std.specs.Prelude.{◌≡◌, ◌++◌, ◌<◌, ◌≤◌, Bool, false, IfOk, OnOk, length, IfSome};
 ghost use Rattle.md_tree.specs.Tree.{Empty, events};
 ghost use Rattle.md_events.specs.Node.{node_then};
 ghost use Rattle.md_events.specs.LeafBlocks.{heading_node};
-ghost use Rattle.md_events.specs.Written.{first_leaf, leaf_events, lines_taken};
+ghost use Rattle.md_events.specs.Written.{first_leaf, lines_taken, rule_events};
 
 use crate::code_blocks::{write_fenced, write_indented};
 use md_inline::write_inlines;
 use md_lines::Line;
-use md_rules::{Heading, fence_of, heading_of, is_code};
+use md_rules::{Heading, fence_of, heading_of, is_code, is_rule};
 use md_tree::{Event, Tag, TagEnd};
 use std::alloc::{AllocError, Global};
 
@@ -20,7 +20,7 @@ pub(crate) fn write_leaf_block<'a>(
     out: &mut Vec<Event<'a>>,
 ) -> Result<Option<usize>, AllocError>
     requires { 0 < length lines.now }
-    ensures written { OnOk result (out.new.items ≡ out.old.items ++ leaf_events (first_leaf lines.now)) }
+    ensures written { OnOk result ((tight : Bool) → out.new.items ≡ out.old.items ++ rule_events tight (first_leaf lines.now)) }
     ensures lines { IfOk result (λ count. count ≡ lines_taken (first_leaf lines.now)) }
     ensures within { IfOk result (λ count. IfSome count (λ n. n ≤ length lines.now)) }
 {
@@ -30,6 +30,10 @@ pub(crate) fn write_leaf_block<'a>(
     }
     if let Some(fence) = fence_of(line) {
         return Ok(Some(1 + write_fenced(alloc, fence, &lines[1..], out)?));
+    }
+    if is_rule(line) {
+        out.push(Event::Rule)?;
+        return Ok(Some(1));
     }
     if let Some(heading) = heading_of(alloc, line)? {
         write_heading(alloc, heading, out)?;
@@ -44,7 +48,7 @@ fn write_heading<'a>(
     heading: Heading<'a>,
     out: &mut Vec<Event<'a>>,
 ) -> Result<(), AllocError>
-    ensures { OnOk result (out.new.items ≡ out.old.items ++ events (node_then (heading_node heading.entry) Empty)) }
+    ensures { OnOk result (out.new.items ≡ out.old.items ++ events (node_then false (heading_node heading.entry) Empty)) }
 {
     let level = heading.level;
     let content = [heading.content];

@@ -6,7 +6,9 @@ mod code_blocks;
 mod forms;
 pub mod laws;
 mod leaf_blocks;
+mod paragraph;
 mod reader;
+mod task_mark;
 
 pub use forms::built;
 pub use md_tree::{

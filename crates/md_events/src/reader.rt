@@ -9,6 +9,9 @@ use md_lines::lines_of;
 use md_tree::Event;
 use std::alloc::{AllocError, Global};
 
+/// How many levels deep quotes and items may stand in one another.
+const DEPTH_LIMIT: usize = 32;
+
 /// The events of the text's tree; the texts in them borrow from it. The forms of the text must all be built: `built`
 /// tells.
 pub fn read<'a>(alloc: Global, text: &'a str) -> Result<Vec<Event<'a>>, AllocError>
@@ -17,6 +20,6 @@ pub fn read<'a>(alloc: Global, text: &'a str) -> Result<Vec<Event<'a>>, AllocErr
 {
     let lines = lines_of(alloc, text)?;
     let mut out = Vec::new(alloc);
-    write_blocks(alloc, lines.as_slice(), &mut out)?;
+    write_blocks(alloc, lines.as_slice(), DEPTH_LIMIT, false, &mut out)?;
     Ok(out)
 }

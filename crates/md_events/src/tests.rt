@@ -71,6 +71,18 @@ fn show(shown: &mut String, event: &Event) -> Result<(), AllocError> {
             write!(shown, "<code {info}>")
         }
         Event::End(TagEnd::CodeBlock) => shown.push_str("</code>"),
+        Event::Start(Tag::BlockQuote(None)) => shown.push_str("<quote>"),
+        Event::Start(Tag::BlockQuote(Some(BlockQuoteKind::Note))) => shown.push_str("<note>"),
+        Event::Start(Tag::BlockQuote(Some(_))) => shown.push_str("<alert>"),
+        Event::End(TagEnd::BlockQuote(_)) => shown.push_str("</quote>"),
+        Event::Start(Tag::List(None)) => shown.push_str("<list>"),
+        Event::Start(Tag::List(Some(number))) => write!(shown, "<list {number}>"),
+        Event::End(TagEnd::List(_)) => shown.push_str("</list>"),
+        Event::Start(Tag::Item) => shown.push_str("<item>"),
+        Event::End(TagEnd::Item) => shown.push_str("</item>"),
+        Event::TaskListMarker(true) => shown.push_str("[x]"),
+        Event::TaskListMarker(false) => shown.push_str("[ ]"),
+        Event::Rule => shown.push_str("<rule>"),
         Event::Text(text) => {
             let text = text.as_str();
             write!(shown, "({text})")
@@ -190,10 +202,168 @@ fn an_indent_of_four_is_code(rt: HostRuntime) -> Result<(), Fail> {
 }
 
 #[test]
+fn quotes_stand_in_quotes(rt: HostRuntime) -> Result<(), Fail> {
+    let rows = [
+        ("> a\n>b\nc", "<quote><p>(a)/(b)</p></quote><p>(c)</p>"),
+        (
+            "> > a\n> b",
+            "<quote><quote><p>(a)</p></quote><p>(b)</p></quote>",
+        ),
+        (
+            ">\tx\n>\n>\t x",
+            "<quote><p>(x)</p><indented>(x)(\n)</code></quote>",
+        ),
+        ("a\n> b", "<p>(a)</p><quote><p>(b)</p></quote>"),
+        ("> [!note]\n> a", "<note><p>(a)</p></quote>"),
+        (
+            "> [!TIP] \n> a\n>\n> b",
+            "<alert><p>(a)</p><p>(b)</p></quote>",
+        ),
+        ("> [!NOTES]\n", "<quote><p>([!NOTES])</p></quote>"),
+        ("    > a", "<indented>(> a)(\n)</code>"),
+    ];
+    compare(&rt, rt.alloc(), &rows)
+}
+
+#[test]
+fn containers_stand_thirty_two_levels_deep(rt: HostRuntime) -> Result<(), Fail> {
+    let marks = ">>>>>>>>>>>>>>>>>>>>>>>>>>>>>>>>> - a\n";
+    let shown = shown(&rt, rt.alloc(), marks)?;
+    let mut wanted = String::new(rt.alloc());
+    for _ in 0..32 {
+        wanted.push_str("<quote>")?;
+    }
+    wanted.push_str("<p>(> - a)</p>")?;
+    for _ in 0..32 {
+        wanted.push_str("</quote>")?;
+    }
+    assert_eq!(rt; shown.as_str(), wanted.as_str());
+    Ok(())
+}
+
+#[test]
+fn items_of_one_kind_are_a_list(rt: HostRuntime) -> Result<(), Fail> {
+    let rows = [
+        ("- a\n- b", "<list><item>(a)</item><item>(b)</item></list>"),
+        (
+            "- a\n\n- b",
+            "<list><item><p>(a)</p></item><item><p>(b)</p></item></list>",
+        ),
+        (
+            "- a\n* b",
+            "<list><item>(a)</item></list><list><item>(b)</item></list>",
+        ),
+        (
+            "9. a\n10. b",
+            "<list 9><item>(a)</item><item>(b)</item></list>",
+        ),
+        (
+            "1. a\n2) b",
+            "<list 1><item>(a)</item></list><list 2><item>(b)</item></list>",
+        ),
+        (
+            "a\n2. b\n01. c",
+            "<p>(a)/(2. b)</p><list 1><item>(c)</item></list>",
+        ),
+        ("1234567890. a", "<p>(1234567890. a)</p>"),
+        ("a\n* \nb", "<p>(a)/(*)/(b)</p>"),
+        ("-a", "<p>(-a)</p>"),
+        (
+            "- a\n- - -\n- b",
+            "<list><item>(a)</item></list><rule><list><item>(b)</item></list>",
+        ),
+        ("- a\nb", "<list><item>(a)</item></list><p>(b)</p>"),
+        ("- a\n\nb", "<list><item>(a)</item></list><p>(b)</p>"),
+    ];
+    compare(&rt, rt.alloc(), &rows)
+}
+
+#[test]
+fn items_hold_blocks(rt: HostRuntime) -> Result<(), Fail> {
+    let rows = [
+        (
+            "- - a",
+            "<list><item><list><item>(a)</item></list></item></list>",
+        ),
+        (
+            "-   a\n  - b",
+            "<list><item>(a)<list><item>(b)</item></list></item></list>",
+        ),
+        ("- a\n - b", "<list><item>(a)</item><item>(b)</item></list>"),
+        (
+            "-   a\n\n      b",
+            "<list><item><p>(a)</p><indented>(b)(\n)</code></item></list>",
+        ),
+        (
+            "-     code",
+            "<list><item><indented>(code)(\n)</code></item></list>",
+        ),
+        (
+            "-\n\n\n  a\n- b",
+            "<list><item><p>(a)</p></item><item><p>(b)</p></item></list>",
+        ),
+        (
+            "- ```\n  a\n\n  b\n  ```\n- c",
+            "<list><item><code >(a)(\n)(\n)(b)(\n)</code></item><item><p>(c)</p></item></list>",
+        ),
+        (
+            "- a\n  > q\n- b\n\n- c",
+            "<list><item><p>(a)</p><quote><p>(q)</p></quote></item><item><p>(b)</p></item><item><p>(c)</p></item></list>",
+        ),
+        (
+            "- a\n  > q",
+            "<list><item>(a)<quote><p>(q)</p></quote></item></list>",
+        ),
+        (
+            "-\tx\n\n\ty",
+            "<list><item><p>(x)</p><p>(y)</p></item></list>",
+        ),
+    ];
+    compare(&rt, rt.alloc(), &rows)
+}
+
+#[test]
+fn items_begin_with_task_marks(rt: HostRuntime) -> Result<(), Fail> {
+    let rows = [
+        (
+            "- [x] a\n- [ ] b",
+            "<list><item>[x](a)</item><item>[ ](b)</item></list>",
+        ),
+        (
+            "- [X] a\n\n  b",
+            "<list><item><p>[x](a)</p><p>(b)</p></item></list>",
+        ),
+        ("- [x]", "<list><item>([x])</item></list>"),
+        ("- [x] # a", "<list><item>[x]<h1>(a)</h1></item></list>"),
+        (
+            "- [ ]     a",
+            "<list><item>[ ]<indented>(a)(\n)</code></item></list>",
+        ),
+        ("- [y] a", "<list><item>([y] a)</item></list>"),
+        (
+            "1. [x] > q\n\n2. b",
+            "<list 1><item>[x]<quote><p>(q)</p></quote></item><item><p>(b)</p></item></list>",
+        ),
+    ];
+    compare(&rt, rt.alloc(), &rows)
+}
+
+#[test]
+fn rules_have_three_marks(rt: HostRuntime) -> Result<(), Fail> {
+    let rows = [
+        ("a\n---", "<p>(a)</p><rule>"),
+        (" * * *\n_____", "<rule><rule>"),
+        ("--", "<p>(--)</p>"),
+        ("-*-", "<p>(-*-)</p>"),
+    ];
+    compare(&rt, rt.alloc(), &rows)
+}
+
+#[test]
 fn some_forms_are_not_built(rt: HostRuntime) {
-    assert!(rt; built("Hello, *world*! [a](b)\r\n   a 1 > 2: a-b\r      \n\tc\n```"));
+    assert!(rt; built("Hello, *world*! [a](b:c)\r\n---\n1. > - :\r      \n\tc\n```"));
     for text in [
-        "a$", "<b", "a|b", "![a", "[^a", "> a", "-", "+ a", ": a", "1", "* a", "**", "_ _ _",
+        "a$", "<b", "a|b", "![a", "[^a", "a: b", "a:\tb", "---", "---  \na",
     ] {
         assert!(rt; !built(text));
     }

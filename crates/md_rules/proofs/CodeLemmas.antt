@@ -10,7 +10,7 @@ abbrev pub with_taken : ℕ → ℕ → ℕ → ℕ
 with_taken taken at zero = taken
 with_taken taken at (suc n) = at + suc n
 
-with_taken-empty : (taken at n : ℕ) → with_taken taken at (if_more n) ≡ with_taken taken (at + 1) n
+pub with_taken-empty : (taken at n : ℕ) → with_taken taken at (if_more n) ≡ with_taken taken (at + 1) n
 with_taken-empty taken at zero = refl
 with_taken-empty taken at (suc n) = omega arith
 

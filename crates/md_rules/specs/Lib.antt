@@ -4,3 +4,7 @@ pub mod Attributes
 pub mod Headings
 pub mod Code
 pub mod Fences
+pub mod Rules
+pub mod Quotes
+pub mod Items
+pub mod Lists

@@ -43,11 +43,7 @@ pub fn hanging(column: u128, lines: &[Line]) -> usize
 }
 
 /// The text of a line from a column on, which is owned where spaces stand before the body.
-pub fn text_from<'a>(
-    alloc: Global,
-    column: u128,
-    line: &Line<'a>,
-) -> Result<CowStr<'a>, AllocError>
+pub fn text_from<'a>(alloc: Global, column: u128, line: &Line<'a>) -> Result<CowStr<'a>, AllocError>
     ensures { IfOk result (λ text. text ≡ text_from column line.now) }
 {
     if line.indent <= column {

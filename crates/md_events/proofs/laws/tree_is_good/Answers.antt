@@ -1,6 +1,5 @@
-use Rattle.md_lines.specs.Lines.{lines_of}
-use Rattle.md_events.proofs.GoodBlocks.{blocks_after-good}
+use Rattle.md_events.proofs.GoodBlocks.{tree-good}
 use Rattle.md_events.proofs.laws.tree_is_good.Goals as goal
 
 pub returns : goal.returns
-returns c = λ text. blocks_after-good 0 (lines_of text)
+returns c = λ text small. tree-good text small

@@ -9,7 +9,7 @@ loop-at-preserved-then-is_empty c =
       order = omega arith;
       within = omega arith;
       so_far = empty-step c.args.column c.args.lines.now c.loop-at.taken c.loop-at.at c.index-lines-at.result _ c.loop-at-test.true
-      (ap is_empty (sym c.index-lines-at.is) ∙ (sym c.is_empty.ensures ∙ c.if-is_empty.true)) c.loop-at.invariant.so_far;
+          (ap is_empty (sym c.index-lines-at.is) ∙ (sym c.is_empty.ensures ∙ c.if-is_empty.true)) c.loop-at.invariant.so_far;
     }
 
 pub loop-at-preserved : goal.loop-at-preserved
@@ -18,8 +18,8 @@ loop-at-preserved c =
       order = omega arith;
       within = omega arith;
       so_far = deep-step c.args.column c.args.lines.now c.loop-at.taken c.loop-at.at c.index-lines-at.result _ c.loop-at-test.true
-      (ap is_empty (sym c.index-lines-at.is) ∙ (sym c.is_empty.ensures ∙ c.if-is_empty.false))
-      (ap (λ (l : LineText). nat_le c.args.column l.indent) (sym c.index-lines-at.is) ∙ (sym c.reaches.ensures ∙ c.if-not-reaches.false)) c.loop-at.invariant.so_far;
+          (ap is_empty (sym c.index-lines-at.is) ∙ (sym c.is_empty.ensures ∙ c.if-is_empty.false))
+          (ap (λ (l : LineText). nat_le c.args.column l.indent) (sym c.index-lines-at.is) ∙ (sym c.reaches.ensures ∙ c.if-not-reaches.false)) c.loop-at.invariant.so_far;
     }
 
 pub returns-after-loop-at-clause-value : goal.returns-after-loop-at-clause-value

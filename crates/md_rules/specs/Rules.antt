@@ -1,0 +1,14 @@
+-- Rules: lines across the page.
+use Rattle.std.specs.Prelude.{ℕ, ◌==◌, nat_le, Bool, ◌&&◌, ◌||◌, List, count_by}
+use Rattle.std.specs.List.{list_all}
+use Rattle.md_lines.specs.Blanks.{is_blank}
+use Rattle.md_lines.specs.Lines.{LineText}
+use Rattle.md_rules.specs.Shallow.{is_shallow}
+
+-- at least three of this mark, with any blanks between and after
+abbrev pub is_rule_of : ℕ → List ℕ → Bool
+is_rule_of mark body = list_all (λ b. b == mark || is_blank b) body && nat_le 3 (count_by (λ b. b == mark) body)
+
+-- a rule of `-`, `*` or `_`
+abbrev pub is_rule : LineText → Bool
+is_rule line = is_shallow line && (is_rule_of 45 line.body || is_rule_of 42 line.body || is_rule_of 95 line.body)
