@@ -12,7 +12,7 @@ use Rattle.std.proofs.lemmas.List.Folds.{list_all-map}
 use Rattle.term_text.specs.LineEnds.{is_one_line, ends_line}
 use Rattle.md_lines.proofs.LineLemmas.{is_one_line-drop, is_one_line-front}
 use Rattle.md_leaves.specs.Cuts.{IsPlace, IsText}
-use Rattle.md_runs.specs.Code.{spaced, is_space, counts_as_space, is_padded, unpadded, padding, code_text, first_line_end}
+use Rattle.md_runs.specs.Code.{spaced, is_space, counts_as_space, is_padded, padding, code_text, first_line_end}
 use Rattle.md_runs.proofs.Lists.{both-true, drop-drop}
 
 pub slice_index_spaced : (bs : List ℕ) (i : ℕ) → slice_index (map spaced bs) i ≡ spaced (slice_index bs i)

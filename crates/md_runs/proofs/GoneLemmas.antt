@@ -1,5 +1,5 @@
 -- What finds no partner in parts finds none further on.
-use Rattle.std.proofs.Common.{List, [], ◌∷◌, length, drop, take, ◌≡◌, ◌≤◌, ◌<◌, ◌+◌, ◌-◌, ℕ, zero, suc, refl, sym, ap, subst, ◌∙◌, arith, Bool, true, false, cond, Option, Some, None, nat_lt}
+use Rattle.std.proofs.Common.{List, [], ◌∷◌, length, drop, take, ◌≡◌, ◌+◌, ◌-◌, ℕ, zero, suc, refl, sym, ap, subst, ◌∙◌, arith, Bool, true, false, cond, Some, None, nat_lt}
 use Rattle.std.specs.Prelude.{not, position}
 use Rattle.std.specs.List.{position_or_len}
 use Rattle.std.proofs.lemmas.Bool.Decides.{nat_tests}

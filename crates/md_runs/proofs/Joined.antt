@@ -1,5 +1,5 @@
 -- The steps of inlines are the events of their nodes.
-use Rattle.std.proofs.Common.{List, [], ◌∷◌, ◌++◌, ◌≡◌, ◌==◌, ℕ, refl, sym, ap, ◌∙◌, Bool, true, false, cond, Option, Some, None, append_assoc}
+use Rattle.std.proofs.Common.{List, [], ◌∷◌, ◌++◌, ◌≡◌, ℕ, refl, ap, ◌∙◌, true, false, cond, Option, Some, None, append_assoc}
 use Rattle.md_tree.specs.declared.event.Event.{Event}
 use Rattle.md_tree.specs.declared.event.Event.TheVariants as event
 use Rattle.md_tree.specs.declared.event.Tag.{Tag}
@@ -8,7 +8,7 @@ use Rattle.md_tree.specs.Tree as nodes
 use Rattle.md_runs.specs.declared.pen.Place.{Place}
 use Rattle.md_runs.specs.Nest.{Inlines, Empty, Text, Leaf, Branch}
 use Rattle.md_runs.specs.Texts.{bytes_at, touch, both, spelled}
-use Rattle.md_runs.specs.Marks.{Step, At, An, steps, text_first, joined}
+use Rattle.md_runs.specs.Marks.{Step, An, steps, text_first, joined}
 
 branch-joined : (source : List ℕ) (t : Tag) (inside rest : Inlines) (ss : List Step) (es : List Event) → ((f : Event) (rs : List Step) → joined source None (steps inside ++ An f ∷ rs) ≡ events_then (spelled source None inside) (f ∷ joined source None rs)) → joined source None (steps rest ++ ss) ≡ events_then (spelled source None rest) es → joined source None ((steps inside ++ An (event.End (end_of t)) ∷ steps rest) ++ ss) ≡ events_then (spelled source None inside) (event.End (end_of t) ∷ events_then (spelled source None rest) es)
 branch-joined source t inside rest ss es first second =

@@ -1,8 +1,7 @@
 -- The nodes of leaves are good among inlines, and stand no deeper than they may.
-use Rattle.std.proofs.Common.{List, [], ◌∷◌, ◌≡◌, ◌≤◌, ◌-◌, ◌==◌, ◌&&◌, ◌||◌, ℕ, zero, suc, refl, sym, ap, subst, ◌∙◌, arith, Bool, true, false, not, cond, Option, Some, None}
+use Rattle.std.proofs.Common.{List, ◌≡◌, ◌≤◌, ◌-◌, ◌&&◌, ◌||◌, ℕ, refl, ap, ◌∙◌, arith, Bool, true, false, not, cond, Option, Some, None}
 use Rattle.std.specs.Prelude.{nat_lt}
 use Rattle.std.proofs.lemmas.Bool.Decides.{nat_tests}
-use Rattle.md_tree.specs.declared.event.Event.{Event}
 use Rattle.md_tree.specs.declared.event.Event.TheVariants as event
 use Rattle.md_tree.specs.declared.event.Tag.{Tag}
 use Rattle.md_tree.specs.Tree as nodes

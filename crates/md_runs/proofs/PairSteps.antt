@@ -1,6 +1,6 @@
 -- Pairs one after another, and the steps that they are written in.
-use Rattle.std.proofs.Common.{List, [], ◌∷◌, ◌++◌, length, drop, take, ◌≡◌, ◌≤◌, ◌<◌, ◌+◌, ◌-◌, ◌==◌, ◌&&◌, ℕ, zero, suc, refl, sym, ap, subst, ◌∙◌, arith, Bool, true, false, cond, Option, Some, None, append_assoc}
-use Rattle.std.specs.Prelude.{nat_le, nat_lt}
+use Rattle.std.proofs.Common.{List, [], ◌∷◌, ◌++◌, drop, ◌≡◌, ◌≤◌, ◌-◌, ◌==◌, ◌&&◌, ℕ, zero, suc, refl, sym, ap, subst, ◌∙◌, arith, Bool, true, false, cond, Option, Some, None, append_assoc}
+use Rattle.std.specs.Prelude.{nat_le}
 use Rattle.std.specs.List.{slice_range}
 use Rattle.std.proofs.lemmas.Bool.Decides.{nat_tests}
 use Rattle.md_tree.specs.declared.event.Event.{Event}
@@ -15,9 +15,9 @@ use Rattle.md_leaves.specs.declared.leaf.Mark as run
 use Rattle.md_leaves.specs.declared.leaf.Mark.TheVariants as mark
 use Rattle.md_runs.specs.declared.pair.Pair.{Pair}
 use Rattle.md_runs.specs.Brackets.{Part, Single, Grouped}
-use Rattle.md_runs.specs.Pairs.{size, has_style, search, is_taken, pair_with, cost, pair_of, pair_at, first_pair, between}
-use Rattle.md_runs.specs.Nest.{Inlines, Empty, Text, Leaf, Branch, stressed, styled, alone, group_tag, unpaired, by_pair, pairs_after, pairs, inner, nest, parts_of}
-use Rattle.md_runs.specs.Marks.{Step, At, An, steps, stress_opened, opened, stress_closed, closed, alone_step}
+use Rattle.md_runs.specs.Pairs.{size, has_style, search, is_taken, pair_with, cost, pair_of, pair_at, between}
+use Rattle.md_runs.specs.Nest.{Inlines, Empty, Branch, stressed, styled, alone, group_tag, unpaired, pairs_after, pairs, inner, nest, parts_of}
+use Rattle.md_runs.specs.Marks.{Step, An, steps, stress_opened, opened, stress_closed, closed, alone_step}
 use Rattle.md_runs.proofs.Lists.{both-true}
 
 pub nest-parts : (source : List ℕ) (depth levels : ℕ) (in_link : Bool) (ls : List cut.Leaf) → nest source depth levels in_link ls ≡ pairs source (inner source depth in_link) levels (parts_of depth in_link ls)

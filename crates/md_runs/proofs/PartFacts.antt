@@ -1,11 +1,11 @@
 -- Parts of a source: what is known of them is known of the parts inside a pair.
-use Rattle.std.proofs.Common.{List, [], ◌∷◌, ◌++◌, length, drop, take, get_or, ◌≡◌, ◌≢◌, ◌≤◌, ◌<◌, ◌+◌, ◌-◌, ◌==◌, ◌&&◌, ◌||◌, ℕ, zero, suc, refl, sym, ap, subst, ◌∙◌, arith, Bool, true, false, not, cond, Option, Some, None, length-drop}
+use Rattle.std.proofs.Common.{List, [], ◌∷◌, ◌++◌, length, drop, take, get_or, ◌≡◌, ◌≤◌, ◌<◌, ◌+◌, ◌-◌, ◌==◌, ◌&&◌, ◌||◌, ℕ, zero, suc, refl, sym, subst, arith, Bool, true, false, not, cond, Option, Some, None}
 use Rattle.std.specs.Prelude.{nat_lt}
 use Rattle.std.proofs.lemmas.Bool.{false≢true}
 use Rattle.std.proofs.lemmas.Bool.Decides.{nat_tests}
 use Rattle.std.proofs.lemmas.List.{drop_more}
 use Rattle.std.proofs.lemmas.List.Quantifiers.{position-Some}
-use Rattle.md_leaves.specs.Cuts.{IsText, IsTarget, IsCut, IsLeaf, AreLeaves}
+use Rattle.md_leaves.specs.Cuts.{IsText, IsCut, AreLeaves}
 use Rattle.md_leaves.specs.declared.leaf.Kind.{Kind}
 use Rattle.md_leaves.specs.declared.leaf.Kind.TheVariants as kind
 use Rattle.md_leaves.specs.declared.leaf.Leaf.{Leaf}
@@ -13,11 +13,10 @@ use Rattle.md_leaves.specs.declared.leaf.Mark.{Mark}
 use Rattle.md_leaves.specs.declared.leaf.Mark.TheVariants as mark
 use Rattle.md_leaves.specs.declared.leaf.Target.{Target}
 use Rattle.md_runs.specs.declared.part.Group.{Group}
-use Rattle.md_runs.specs.Brackets.{Part, Single, Grouped, balance, target_of, first_target, with_target, group_of, group_at, by_group, parts_after, parts, singles}
+use Rattle.md_runs.specs.Brackets.{Part, Single, Grouped, balance, target_of, first_target, with_target, group_of, group_at, by_group, parts_after, singles}
 use Rattle.md_runs.specs.Pairs.{size, same_mark, is_script, size_fits, ends_search, part_ends_search, search, left_over, between}
 use Rattle.md_runs.specs.Nest.{parts_of}
 use Rattle.md_runs.specs.Facts.{IsPart, AreParts}
-use Rattle.md_runs.proofs.PairSteps.{Paired}
 use Rattle.md_runs.proofs.Lists.{both-true}
 
 pub AreLeaves-take : (source : List ℕ) (n : ℕ) (ls : List Leaf) → AreLeaves source ls → AreLeaves source (take n ls)

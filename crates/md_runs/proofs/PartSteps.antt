@@ -1,14 +1,13 @@
 -- The parts of leaves, one after another.
-use Rattle.std.proofs.Common.{not, ◌&&◌, List, [], ◌∷◌, ◌++◌, length, drop, take, get_or, ◌≡◌, ◌≤◌, ◌<◌, ◌+◌, ◌-◌, ℕ, zero, suc, refl, sym, ap, subst, ◌∙◌, arith, Bool, true, false, cond, Option, Some, None}
-use Rattle.std.proofs.lemmas.List.{drop_more, take_all}
-use Rattle.std.proofs.Math.ListN.{drop_of_length-le}
+use Rattle.std.proofs.Common.{not, ◌&&◌, List, [], ◌∷◌, ◌++◌, length, drop, take, get_or, ◌≡◌, ◌≤◌, ◌<◌, ◌+◌, ◌-◌, ℕ, zero, suc, refl, sym, ap, ◌∙◌, arith, Bool, true, false, cond, Option, Some, None}
+use Rattle.std.proofs.lemmas.List.{drop_more}
 use Rattle.std.proofs.Common.{append_assoc, length-drop}
 use Rattle.md_leaves.specs.declared.leaf.Kind.{Kind}
 use Rattle.md_leaves.specs.declared.leaf.Kind.TheVariants as kind
 use Rattle.md_leaves.specs.declared.leaf.Leaf.{Leaf}
 use Rattle.md_leaves.specs.declared.leaf.Target.{Target}
 use Rattle.md_runs.specs.declared.part.Group.{Group}
-use Rattle.md_runs.specs.Brackets.{Part, Single, Grouped, balance, first_target, with_target, group_of, group_at, by_group, parts, parts_after}
+use Rattle.md_runs.specs.Brackets.{Part, Single, Grouped, balance, first_target, with_target, group_of, group_at, parts, parts_after}
 use Rattle.md_runs.specs.Partners.{balances}
 use Rattle.md_runs.proofs.Balance.{balances-get}
 use Rattle.md_runs.proofs.Lists.{drop-drop, slice-rest}

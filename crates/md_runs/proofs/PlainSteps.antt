@@ -1,18 +1,15 @@
 -- Leaves among which no element begins are written one by one.
-use Rattle.std.proofs.Common.{List, [], ◌∷◌, ◌++◌, length, drop, take, get_or, ◌≡◌, ◌≤◌, ◌<◌, ◌+◌, ◌-◌, ◌||◌, ◌&&◌, ℕ, zero, suc, refl, sym, ap, subst, ◌∙◌, arith, Bool, true, false, Option, Some, None}
+use Rattle.std.proofs.Common.{List, [], ◌∷◌, ◌++◌, length, drop, get_or, ◌≡◌, ◌<◌, ◌+◌, ◌-◌, ◌||◌, ℕ, zero, suc, refl, ap, ◌∙◌, arith, Bool, true, false, Option, None}
 use Rattle.std.specs.List.{list_any}
 use Rattle.std.proofs.lemmas.List.{drop_more}
-use Rattle.std.proofs.Math.ListN.{drop_of_length-le}
 use Rattle.md_leaves.specs.declared.leaf.Kind.{Kind}
 use Rattle.md_leaves.specs.declared.leaf.Kind.TheVariants as kind
 use Rattle.md_leaves.specs.declared.leaf.Leaf as cut
 use Rattle.md_leaves.specs.Cuts.{IsLeaf, AreLeaves}
-use Rattle.md_runs.specs.declared.part.Group.{Group}
-use Rattle.md_runs.specs.declared.pair.Pair.{Pair}
-use Rattle.md_runs.specs.Brackets.{Part, Single, Grouped, is_opener, balance, group_of, parts, singles}
+use Rattle.md_runs.specs.Brackets.{Part, Single, is_opener, balance, group_of, parts, singles}
 use Rattle.md_runs.specs.Pairs.{size, pair_of}
-use Rattle.md_runs.specs.Nest.{Inlines, Empty, pairs, inner, nest, parts_of}
-use Rattle.md_runs.specs.Marks.{Step, steps, alone_step}
+use Rattle.md_runs.specs.Nest.{Inlines, pairs, inner, nest, parts_of}
+use Rattle.md_runs.specs.Marks.{steps, alone_step}
 use Rattle.md_runs.specs.Plain.{begins_element, leaf_begins_element, leaf_is_opener, plain_steps}
 use Rattle.md_runs.proofs.PartSteps.{parts-none, parts-single}
 use Rattle.md_runs.proofs.PairSteps.{nest-parts, pairs-none, pairs-unpaired, unpaired-rest, steps-alone}

@@ -1,15 +1,13 @@
 -- Texts that touch are one.
-use Rattle.std.proofs.Common.{List, [], ◌∷◌, ◌++◌, length, take, drop, get_or, ◌≡◌, ◌≤◌, ◌<◌, ◌+◌, ◌-◌, ◌==◌, ℕ, zero, suc, refl, sym, ap, subst, ◌∙◌, arith, true, false, Bool, cond, ◌&&◌, Option, None, Some, append_assoc, eqb-true}
-use Rattle.std.specs.List.{slice_range, list_all}
-use Rattle.std.proofs.lemmas.Bool.Decides.{nat_tests}
+use Rattle.std.proofs.Common.{List, [], ◌∷◌, ◌++◌, take, drop, ◌≡◌, ◌≤◌, ◌+◌, ◌-◌, ◌==◌, ℕ, zero, suc, refl, sym, ap, subst, ◌∙◌, arith, true, false, Bool, cond, Option, None, Some, eqb-true}
+use Rattle.std.specs.List.{slice_range}
 use Rattle.std.proofs.lemmas.List.Folds.{list_all-append}
-use Rattle.term_text.specs.LineEnds.{is_one_line, ends_line}
-use Rattle.md_tree.specs.declared.event.Event.{Event}
+use Rattle.term_text.specs.LineEnds.{is_one_line}
 use Rattle.md_tree.specs.declared.event.Event.TheVariants as event
-use Rattle.md_leaves.specs.Cuts.{IsPlace, IsText}
+use Rattle.md_leaves.specs.Cuts.{IsText}
 use Rattle.md_runs.specs.declared.pen.Place.{Place}
 use Rattle.md_runs.specs.Texts.{bytes_at, touch, both, longer}
-use Rattle.md_runs.specs.Marks.{Step, At, An, text_first, joined}
+use Rattle.md_runs.specs.Marks.{Step, At, text_first, joined}
 use Rattle.md_runs.specs.Facts.{IsPending}
 use Rattle.md_runs.proofs.Lists.{drop-drop, take-nil}
 

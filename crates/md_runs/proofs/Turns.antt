@@ -1,14 +1,13 @@
 -- The turns of the loop over the parts of a level.
-use Rattle.std.proofs.Common.{List, [], ◌∷◌, ◌++◌, length, drop, take, get_or, ◌≡◌, ◌≤◌, ◌<◌, ◌+◌, ◌-◌, ℕ, zero, suc, refl, sym, ap, subst, ◌∙◌, arith, Bool, Option, Some, None, length-drop}
+use Rattle.std.proofs.Common.{List, [], ◌∷◌, ◌++◌, length, drop, take, get_or, ◌≡◌, ◌≤◌, ◌<◌, ◌+◌, ◌-◌, ℕ, suc, sym, ap, ◌∙◌, arith, Bool, Some, None, length-drop}
 use Rattle.std.proofs.lemmas.List.{drop_more}
 use Rattle.std.proofs.Math.ListN.{drop_of_length-le}
-use Rattle.md_tree.specs.declared.event.Event.{Event}
 use Rattle.md_leaves.specs.declared.leaf.Leaf as cut
 use Rattle.md_runs.specs.declared.pair.Pair.{Pair}
-use Rattle.md_runs.specs.Brackets.{Part, Single, Grouped}
+use Rattle.md_runs.specs.Brackets.{Part}
 use Rattle.md_runs.specs.Pairs.{cost, pair_at, first_pair, between}
 use Rattle.md_runs.specs.Nest.{Inlines, Empty, styled, unpaired, pairs}
-use Rattle.md_runs.specs.Marks.{Step, steps}
+use Rattle.md_runs.specs.Marks.{steps}
 use Rattle.md_runs.specs.Facts.{AreParts}
 use Rattle.md_runs.proofs.Lists.{drop-drop, slice-rest}
 use Rattle.md_runs.proofs.PairSteps.{pairs-none, pairs-unpaired, pairs-pair, paired, unpaired-rest, styled-rest}

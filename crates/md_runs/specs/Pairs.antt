@@ -1,5 +1,5 @@
 -- Pairs of runs among the parts of a level.
-use Rattle.std.specs.Prelude.{ℕ, zero, suc, ◌+◌, ◌-◌, ◌==◌, nat_le, nat_lt, Bool, true, false, not, ◌&&◌, ◌||◌, if◌then◌else◌, Option, None, Some, List, [], ◌∷◌, ◌++◌, take, drop, position}
+use Rattle.std.specs.Prelude.{ℕ, ◌-◌, ◌==◌, nat_le, nat_lt, Bool, true, false, not, ◌&&◌, ◌||◌, if◌then◌else◌, Option, None, Some, List, [], ◌∷◌, ◌++◌, take, drop, position}
 use Rattle.std.specs.List.{slice_range, list_any}
 use Rattle.md_lines.specs.Blanks.{is_blank}
 use Rattle.md_leaves.specs.declared.leaf.Kind.{Kind}

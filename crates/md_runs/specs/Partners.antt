@@ -1,5 +1,5 @@
 -- The closers of all openers, found in one pass from the right.
-use Rattle.std.specs.Prelude.{◌≡◌, ℕ, zero, suc, ◌+◌, ◌-◌, Bool, true, false, if◌then◌else◌, Option, None, Some, List, [], ◌∷◌, ◌++◌, length, take}
+use Rattle.std.specs.Prelude.{◌≡◌, ℕ, ◌+◌, ◌-◌, true, false, if◌then◌else◌, Option, None, Some, List, [], ◌∷◌, ◌++◌, length, take}
 use Rattle.md_leaves.specs.declared.leaf.Kind.{Kind}
 use Rattle.md_leaves.specs.declared.leaf.Leaf.{Leaf}
 use Rattle.md_leaves.specs.declared.leaf.Mark.{Mark}

@@ -1,5 +1,5 @@
 -- Inlines with their texts: texts that touch in the source are one.
-use Rattle.std.specs.Prelude.{ℕ, ◌==◌, Bool, true, false, if◌then◌else◌, Option, None, Some, List, []}
+use Rattle.std.specs.Prelude.{ℕ, ◌==◌, Bool, false, if◌then◌else◌, Option, None, Some, List}
 use Rattle.std.specs.List.{slice_range}
 use Rattle.md_tree.specs.declared.event.Event.TheVariants as event
 use Rattle.md_tree.specs.Tree.{Nodes}

@@ -1,4 +1,4 @@
-use Rattle.std.proofs.Common.{◌≡◌, ◌++◌, ◌∷◌, [], ap, sym, ◌∙◌, arith, get_or}
+use Rattle.std.proofs.Common.{◌++◌, ◌∷◌, [], arith, get_or}
 use Rattle.md_leaves.specs.declared.leaf.Kind.TheVariants as kind
 use Rattle.md_leaves.specs.declared.leaf.Leaf.{Leaf}
 use Rattle.md_runs.specs.Marks.{joined, alone_step}

@@ -1,8 +1,6 @@
-use Rattle.std.proofs.Common.{◌≡◌, ◌++◌, ◌∷◌, [], ◌+◌, ◌-◌, List, ℕ, length, drop, take, map, ap, sym, ◌∙◌, arith}
+use Rattle.std.proofs.Common.{◌≡◌, ◌++◌, ◌∷◌, [], ◌-◌, ℕ, length, take, ap, ◌∙◌, arith}
 use Rattle.std.specs.Prelude.{string_bytes}
-use Rattle.std.proofs.lemmas.List.{append-nil}
 use Rattle.std.proofs.lemmas.Bool.Decides.{nat_tests}
-use Rattle.md_runs.specs.Code.{spaced}
 use Rattle.md_runs.proofs.CodeLemmas.{spaced-step, spaced-end, spaced-none}
 use Rattle.md_runs.proofs.code.spaced.Goals as goal
 use Rattle.md_runs.proofs.code.spaced.Goals.{else-loop-rest-test, then-loop-rest-test+in_ok-push_str+then-end-rest}

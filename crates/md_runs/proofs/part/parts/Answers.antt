@@ -1,4 +1,4 @@
-use Rattle.std.proofs.Common.{rules, ℕ, ◌≤◌, ◌++◌, ◌∷◌, [], ap, sym, ◌∙◌, arith, ◌≡◌, ◌<◌, ◌-◌, ◌+◌, length, length-drop, take, drop, subst}
+use Rattle.std.proofs.Common.{rules, ℕ, ◌≤◌, ◌++◌, ◌∷◌, [], ap, sym, ◌∙◌, arith, ◌<◌, length}
 use Rattle.std.proofs.lemmas.List.{length-take-le}
 use Rattle.md_runs.proofs.Balance.{length-balances}
 use Rattle.md_runs.proofs.PartSteps.{group-turn, single-turn, so_far-step, group-within}

@@ -1,4 +1,4 @@
-use Rattle.std.proofs.Common.{ap, sym, ◌∙◌, arith, ◌≡◌, ◌++◌, ◌∷◌, []}
+use Rattle.std.proofs.Common.{ap, ◌∙◌, arith, ◌≡◌, ◌++◌, ◌∷◌, []}
 use Rattle.std.specs.Prelude.{slice_get, length, ◌-◌}
 use Rattle.md_runs.specs.Partners.{distance}
 use Rattle.md_runs.proofs.Balance.{Matches-start, Matches-step, Matches-end}

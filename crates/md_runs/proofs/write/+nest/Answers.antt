@@ -1,13 +1,12 @@
-use Rattle.std.proofs.Common.{false, ◌≡◌, ◌++◌, ◌∷◌, [], ◌+◌, ◌-◌, List, ℕ, rules, Some, None, length, length-drop, take, drop, ap, sym, subst, ◌∙◌, arith}
+use Rattle.std.proofs.Common.{false, ◌≡◌, ◌++◌, ◌∷◌, [], ◌+◌, ◌-◌, List, ℕ, rules, length, length-drop, take, drop, ap, sym, subst, ◌∙◌, arith}
 use Rattle.std.specs.List.{slice_range}
 use Rattle.md_tree.specs.declared.event.Event.TheVariants as event
 use Rattle.md_tree.specs.Tree.{end_of}
-use Rattle.md_runs.specs.declared.pair.Pair.{Pair}
-use Rattle.md_runs.specs.Brackets.{Part, Single, Grouped}
+use Rattle.md_runs.specs.Brackets.{Single}
 use Rattle.md_runs.specs.Seen.{part_of}
-use Rattle.md_runs.specs.Pairs.{cost, first_pair, between}
-use Rattle.md_runs.specs.Nest.{Empty, group_tag, inner, nest, pairs, parts_of, styled, unpaired}
-use Rattle.md_runs.specs.Marks.{Step, An, alone_step, closed, joined, opened, steps}
+use Rattle.md_runs.specs.Pairs.{cost, between}
+use Rattle.md_runs.specs.Nest.{Empty, group_tag, inner, pairs, parts_of, unpaired}
+use Rattle.md_runs.specs.Marks.{An, closed, joined, opened, steps}
 use Rattle.md_runs.specs.Partners.{IsGone}
 use Rattle.md_runs.specs.Facts.{AreParts, IsPart}
 use Rattle.md_runs.proofs.Lists.{slice-rest}

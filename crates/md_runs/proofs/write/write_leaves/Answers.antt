@@ -1,4 +1,4 @@
-use Rattle.std.proofs.Common.{◌≡◌, ◌++◌, [], List, ℕ, ap, sym, ◌∙◌, None, false}
+use Rattle.std.proofs.Common.{◌++◌, [], List, ℕ, ap, sym, ◌∙◌, None, false}
 use Rattle.std.proofs.lemmas.List.{append-nil}
 use Rattle.md_runs.specs.Nest.{nest}
 use Rattle.md_runs.specs.Marks.{joined, steps}

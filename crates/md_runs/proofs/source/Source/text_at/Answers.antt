@@ -1,4 +1,4 @@
-use Rattle.std.proofs.Common.{ℕ, List, ◌-◌, ◌≡◌, map, ap, sym, subst, ◌∙◌}
+use Rattle.std.proofs.Common.{◌-◌, ◌≡◌, map, ap, sym, subst, ◌∙◌}
 use Rattle.std.specs.List.{slice_range}
 use Rattle.md_lines.specs.Lines.{LineText, body_of}
 use Rattle.md_leaves.specs.Cuts.{IsPlace}
