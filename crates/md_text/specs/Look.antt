@@ -1,5 +1,6 @@
 -- What a layout rests on: what the style sheet answers, and what the highlighter knows and answers.
-use Rattle.std.specs.Prelude.{ℕ, Bool, false, List}
+use Rattle.std.specs.Prelude.{ℕ, Bool, false, List, codes}
+use Rattle.std.specs.Str.{bytes_eq}
 use Rattle.md_table.specs.Sheet.{Sheet}
 use Rattle.md_table.specs.Defaults.{default_sheet}
 use Rattle.md_text.specs.Options.{OptionsView}
@@ -14,6 +15,21 @@ pub record Look : Type 0 where
 abbrev pub look_of : {S : Type 0} → OptionsView S → (S → Sheet) → (List ℕ → Bool) → (List ℕ → List ℕ → List ℕ) → Look
 look_of options sheet known answer = record { sheet = sheet options.styles; known = known; answer = answer }
 
+-- the info texts of no code, and of code that has its colours in itself
+abbrev pub knows_nothing : List ℕ → Bool
+knows_nothing info = false
+
+abbrev pub knows_ansi : List ℕ → Bool
+knows_ansi info = bytes_eq info (codes "ansi")
+
+-- a line is shown as it is
+abbrev pub as_it_is : List ℕ → List ℕ → List ℕ
+as_it_is info line = line
+
 -- the look of the defaults: no code is coloured
 abbrev pub default_look : Look
-default_look = record { sheet = default_sheet; known = λ info. false; answer = λ info line. line }
+default_look = record { sheet = default_sheet; known = knows_nothing; answer = as_it_is }
+
+-- the look of a sheet, where code that says that it has ANSI colours is shown in them
+abbrev pub ansi_look : Sheet → Look
+ansi_look sheet = record { sheet = sheet; known = knows_ansi; answer = as_it_is }

@@ -1,6 +1,6 @@
 // Highlighters of code.
-ghost use Rattle.std.specs.Prelude.{◌≡◌, ℕ, Bool, false, List, codes, IfOk, string_bytes};
-ghost use Rattle.std.specs.Str.{bytes_eq};
+ghost use Rattle.std.specs.Prelude.{◌≡◌, ℕ, Bool, List, IfOk, string_bytes};
+ghost use Rattle.md_text.specs.Look.{knows_ansi, knows_nothing, as_it_is};
 
 use std::alloc::{AllocError, Global};
 
@@ -27,9 +27,9 @@ pub trait Highlighter {
 pub struct AnsiFence;
 
 impl Highlighter for AnsiFence {
-    ghost known = { λ _ lang. bytes_eq lang (codes "ansi") };
+    ghost known = { λ _. knows_ansi };
 
-    ghost answer = { λ _ lang line. line };
+    ghost answer = { λ _. as_it_is };
 
     fn recognises(&self, lang: &str) -> bool {
         lang == "ansi"
@@ -45,9 +45,9 @@ impl Highlighter for AnsiFence {
 pub struct NoHighlight;
 
 impl Highlighter for NoHighlight {
-    ghost known = { λ _ lang. false };
+    ghost known = { λ _. knows_nothing };
 
-    ghost answer = { λ _ lang line. line };
+    ghost answer = { λ _. as_it_is };
 
     fn recognises(&self, _lang: &str) -> bool {
         false

@@ -300,6 +300,36 @@ impl Highlighter for Keywords {
     }
 }
 
+// A highlighter that has no memory.
+struct Refusing;
+
+impl Highlighter for Refusing {
+    ghost use Rattle.md_text.specs.Look.{knows_ansi, as_it_is};
+
+    ghost known = { λ _. knows_ansi };
+
+    ghost answer = { λ _. as_it_is };
+
+    fn recognises(&self, lang: &str) -> bool {
+        lang == "ansi"
+    }
+
+    fn line(&self, _alloc: Global, _lang: &str, _line: &str) -> Result<String, AllocError> {
+        Err(AllocError)
+    }
+}
+
+#[test]
+fn a_highlighters_want_of_memory_is_handed_on(rt: HostRuntime) -> Result<(), Fail> {
+    let events = code_between(fenced("ansi"), ["a", "\n", ""]);
+    let refused = laid_out(rt.alloc(), &events, &Options::default(), &Refusing);
+    assert!(rt; refused.is_err());
+    let events = code_between(fenced("other"), ["a", "\n", ""]);
+    let laid = laid_out(rt.alloc(), &events, &Options::default(), &Refusing);
+    assert!(rt; laid.is_ok());
+    Ok(())
+}
+
 #[test]
 fn a_highlighter_of_ones_own_is_asked_for_each_line(rt: HostRuntime) -> Result<(), Fail> {
     let rows = [
