@@ -1,12 +1,12 @@
 -- What the writers of code keep.
-use Rattle.std.proofs.Common.{List, [], ◌∷◌, ◌++◌, length, drop, take, get_or, min, ◌≡◌, ◌≤◌, ◌<◌, ◌+◌, ℕ, suc, refl, sym, ap, ◌∙◌, arith, append_assoc, append-nil}
+use Rattle.std.proofs.Common.{List, [], ◌∷◌, ◌++◌, length, drop, get_or, ◌≡◌, ◌≤◌, ◌<◌, ◌+◌, ℕ, refl, sym, ap, ◌∙◌, append_assoc, append-nil}
 use Rattle.std.proofs.lemmas.List.{drop_more}
 use Rattle.std.proofs.Math.ListN.{drop_of_length-le}
 use Rattle.md_tree.specs.declared.event.Event.{Event}
 use Rattle.md_tree.specs.declared.event.Event.TheVariants as event
 use Rattle.md_tree.specs.Tree.{Nodes, Empty, Leaf, events}
 use Rattle.md_lines.specs.Lines.{LineText}
-use Rattle.md_rules.specs.Code.{hanging, text_from}
+use Rattle.md_rules.specs.Code.{text_from}
 use Rattle.md_events.specs.CodeBlocks.{code_line, code_lines, text_then}
 
 events-text_then : (text : List ℕ) (rest : Nodes) → events (text_then text (Leaf (event.Text (10 ∷ [])) rest)) ≡ events (text_then text (Leaf (event.Text (10 ∷ [])) Empty)) ++ events rest

@@ -1,7 +1,6 @@
 -- What the writers of quotes, lists and items keep.
-use Rattle.std.proofs.Common.{List, [], ◌∷◌, ◌++◌, length, drop, take, get_or, ◌≡◌, ◌≤◌, ◌<◌, ◌+◌, ◌-◌, ◌==◌, ℕ, zero, suc, refl, sym, ap, ◌∙◌, arith, Bool, true, false, cond, not, Option, Some, None, append_assoc, append-nil}
+use Rattle.std.proofs.Common.{List, [], ◌∷◌, ◌++◌, length, drop, take, get_or, ◌≡◌, ◌≤◌, ◌<◌, ◌+◌, ℕ, zero, suc, refl, sym, ap, ◌∙◌, arith, Bool, true, false, cond, not, Option, Some, None, append_assoc, append-nil}
 use Rattle.std.specs.Option.{is_some}
-use Rattle.std.specs.List.{slice_range}
 use Rattle.std.proofs.lemmas.Bool.{false≢true}
 use Rattle.std.proofs.lemmas.List.{drop_more}
 use Rattle.std.proofs.Math.ListN.{drop_of_length-le}
@@ -16,7 +15,7 @@ use Rattle.md_lines.specs.Lines.{LineText, is_empty}
 use Rattle.md_rules.specs.declared.item.Marker.{Marker}
 use Rattle.md_rules.specs.Quotes.{first_alert, quoted, quotes, unquoted, without_kind}
 use Rattle.md_rules.specs.Items.{item_column, item_line, item_lines, item_more, task_of}
-use Rattle.md_rules.specs.Lists.{is_loose, list_more, next_item}
+use Rattle.md_rules.specs.Lists.{is_loose, next_item}
 use Rattle.md_rules.proofs.Slices.{drop-drop}
 use Rattle.md_events.specs.Node.{block_events}
 use Rattle.md_events.specs.Containers.{in_item, inside_quote, item_then, items, list_lines, with_task}

@@ -1,8 +1,6 @@
 -- The blocks of lines are good.
-use Rattle.std.proofs.Common.{List, [], ◌∷◌, ◌≡◌, ◌≤◌, ◌<◌, ◌+◌, ◌*◌, ◌-◌, ◌^◌, ◌==◌, length, ℕ, zero, suc, refl, sym, ap, ◌∙◌, arith, true, false, Bool, cond, not, ◌&&◌, map, take, drop, Option, None, Some}
+use Rattle.std.proofs.Common.{List, [], ◌∷◌, ◌≡◌, ◌≤◌, ◌<◌, ◌+◌, ◌-◌, ◌^◌, ◌==◌, length, ℕ, zero, suc, refl, sym, arith, true, false, Bool, cond, not, ◌&&◌, take, Option, None, Some}
 use Rattle.std.proofs.lemmas.Bool.{eqb-true, false≢true}
-use Rattle.std.proofs.lemmas.Bool.Decides.{nat_tests}
-use Rattle.md_tree.specs.declared.event.CodeBlockKind.{CodeBlockKind}
 use Rattle.md_tree.specs.declared.event.Event.TheVariants as event
 use Rattle.md_tree.specs.declared.event.Tag.TheVariants as tag
 use Rattle.md_tree.specs.declared.place.Holds.{Holds}
@@ -17,18 +15,16 @@ use Rattle.md_tree.proofs.Nodes.{and_both, good_at-level}
 use Rattle.md_lines.specs.Lines.{LineText, is_empty, lines_of}
 use Rattle.md_inline.specs.Inlines.{inlines}
 use Rattle.md_inline.proofs.GoodInlines.{inlines-good}
-use Rattle.md_rules.specs.declared.heading.Heading.{Heading}
 use Rattle.md_rules.specs.declared.item.Marker.{Marker}
 use Rattle.md_rules.specs.Code.{text_from}
 use Rattle.md_rules.specs.Items.{item_column, item_line, item_lines, item_more, marker_of, task_of}
 use Rattle.md_rules.specs.Lists.{is_loose, next_item}
-use Rattle.md_rules.specs.Quotes.{first_alert, quoted, quotes}
-use Rattle.md_rules.proofs.Filled.{filled, filled-drop, filled-first, filled-item, filled-later, filled-lines_of, filled-quoted, filled-take, filled-without_kind}
+use Rattle.md_rules.specs.Quotes.{first_alert, quoted}
+use Rattle.md_rules.proofs.Filled.{filled, filled-first, filled-item, filled-later, filled-lines_of, filled-quoted, filled-take, filled-without_kind}
 use Rattle.md_rules.proofs.ItemLemmas.{marker-small}
-use Rattle.md_events.specs.Node.{Node, Single, Element, Run, node_then}
+use Rattle.md_events.specs.Node.{Node, Run, node_then}
 use Rattle.md_events.specs.CodeBlocks.{code_lines, text_then}
-use Rattle.md_events.specs.LeafBlocks.{heading_node}
-use Rattle.md_events.specs.Containers.{in_item, inside_quote, item_then, items, list, list_lines, quote}
+use Rattle.md_events.specs.Containers.{in_item, inside_quote, item_then, items, list_lines}
 use Rattle.md_events.specs.Blocks.{block, blocks, blocks_after, tree}
 use Rattle.md_events.proofs.GoodPlaces.{inlines-mixed, with_task-good}
 use Rattle.md_events.proofs.RuleSteps.{block-node}

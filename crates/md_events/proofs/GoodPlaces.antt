@@ -1,5 +1,5 @@
 -- Nodes that are good at one place are good at another.
-use Rattle.std.proofs.Common.{◌≡◌, ℕ, refl, sym, ap, subst, ◌∙◌, Bool, true, false, ◌&&◌, Option, None, Some}
+use Rattle.std.proofs.Common.{◌≡◌, refl, sym, subst, Bool, true, false, Option, None, Some}
 use Rattle.std.proofs.lemmas.Bool.{false≢true}
 use Rattle.md_tree.specs.declared.event.Event.{Event}
 use Rattle.md_tree.specs.declared.event.Event.TheVariants as event
@@ -10,7 +10,7 @@ use Rattle.md_tree.specs.declared.place.Holds.TheVariants as level
 use Rattle.md_tree.specs.declared.place.Numbers.TheVariants.{Free}
 use Rattle.md_tree.specs.declared.place.Place.{Place}
 use Rattle.md_tree.specs.Tree.{Nodes, Empty, Leaf, Branch}
-use Rattle.md_tree.specs.Good.{good_at, holds_inlines, level_of, may_hold, may_stand, place_after, place_inside}
+use Rattle.md_tree.specs.Good.{good_at, level_of, may_hold, may_stand, place_after, place_inside}
 use Rattle.md_tree.proofs.Nodes.{and_both, and_left, and_right}
 use Rattle.md_events.specs.Containers.{mark_then, with_task}
 

@@ -8,13 +8,13 @@ use Rattle.md_tree.specs.declared.event.Tag.{Tag}
 use Rattle.md_tree.specs.declared.event.Tag.TheVariants.{Paragraph}
 use Rattle.md_tree.specs.declared.event.TagEnd.{TagEnd}
 use Rattle.md_tree.specs.declared.event.TagEnd.TheVariants as end
-use Rattle.md_tree.specs.Tree.{Nodes, Empty, Branch, end_of, events, events_then, nodes_then}
+use Rattle.md_tree.specs.Tree.{Nodes, Empty, Branch, end_of, events, events_then}
 use Rattle.md_tree.proofs.Nodes.{events-nodes_then, events_then-events, nodes_then-empty}
 use Rattle.md_lines.specs.Lines.{LineText, body_of, is_empty}
 use Rattle.md_inline.specs.Inlines.{inlines}
 use Rattle.md_rules.proofs.Slices.{drop-drop, slice-rest}
 use Rattle.md_events.specs.Node.{Node, Single, Element, Run, node_then, block_events}
-use Rattle.md_events.specs.Blocks.{block, blocks_after, blocks, paragraph_more}
+use Rattle.md_events.specs.Blocks.{blocks_after, blocks, paragraph_more}
 use Rattle.md_events.specs.Written.{first_block, first_paragraph, nests, reader}
 
 -- the blocks of lines, by how the lines of containers are read

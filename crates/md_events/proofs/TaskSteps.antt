@@ -1,5 +1,5 @@
 -- The task mark of an item among its events.
-use Rattle.std.proofs.Common.{List, [], ◌∷◌, ◌++◌, length, drop, take, get_or, ◌≡◌, ◌≤◌, ◌<◌, ◌+◌, ◌-◌, ℕ, zero, suc, refl, sym, ap, ◌∙◌, arith, Bool, true, false, cond, length-drop, take_all, append_assoc, Option, Some}
+use Rattle.std.proofs.Common.{List, [], ◌∷◌, ◌++◌, length, drop, take, get_or, ◌≡◌, ◌<◌, ◌+◌, ◌-◌, ℕ, zero, suc, refl, sym, ap, ◌∙◌, arith, Bool, true, false, cond, length-drop, take_all, append_assoc, Option, Some}
 use Rattle.std.specs.List.{swap, slice_set}
 use Rattle.std.proofs.lemmas.Bool.{false≢true}
 use Rattle.std.proofs.lemmas.List.Edits.{swap_is}
@@ -10,7 +10,7 @@ use Rattle.md_tree.specs.declared.event.Tag.{Tag}
 use Rattle.md_tree.specs.declared.event.Tag.TheVariants as tag
 use Rattle.md_tree.specs.Tree.{Nodes, Empty, Leaf, Branch, events}
 use Rattle.md_lines.specs.Lines.{LineText, is_empty}
-use Rattle.md_events.specs.Node.{Node, Single, Element, Run, node_then}
+use Rattle.md_events.specs.Node.{Node, node_then}
 use Rattle.md_events.specs.Containers.{mark_then, with_task}
 use Rattle.md_events.specs.Blocks.{block, blocks, blocks_after}
 use Rattle.md_events.specs.Written.{begins_paragraph, exchanged, into_paragraph, is_paragraph_start, starts_paragraph}

@@ -1,6 +1,5 @@
 -- Blocks of code.
 use Rattle.std.specs.Prelude.{ℕ, Option, None, Some, List, [], ◌∷◌, take}
-use Rattle.md_tree.specs.declared.event.CodeBlockKind.{CodeBlockKind}
 use Rattle.md_tree.specs.declared.event.CodeBlockKind.TheVariants.{Indented, Fenced}
 use Rattle.md_tree.specs.declared.event.Event.TheVariants as event
 use Rattle.md_tree.specs.declared.event.Tag.TheVariants as tag

@@ -1,5 +1,5 @@
 -- What a rule for blocks answers.
-use Rattle.std.specs.Prelude.{ℕ, Bool, true, false, Option, None, Some, List, []}
+use Rattle.std.specs.Prelude.{ℕ, Bool, true, false, Option, None, Some, List}
 use Rattle.md_tree.specs.declared.event.Event.{Event}
 use Rattle.md_tree.specs.declared.event.Tag.{Tag}
 use Rattle.md_tree.specs.declared.event.Tag.TheVariants as tag

@@ -1,6 +1,5 @@
 -- What the writers of blocks tell.
 use Rattle.std.specs.Prelude.{ℕ, zero, suc, ◌+◌, Bool, true, false, Option, None, Some, List, [], ◌∷◌, if◌then◌else◌}
-use Rattle.md_tree.specs.declared.event.CodeBlockKind.TheVariants.{Indented}
 use Rattle.md_tree.specs.declared.event.Event.{Event}
 use Rattle.md_tree.specs.declared.event.Event.TheVariants as event
 use Rattle.md_tree.specs.declared.event.Tag.TheVariants as tag

@@ -1,9 +1,7 @@
 -- What stands between braces at the end of a text.
-use Rattle.std.proofs.Common.{List, length, take, drop, get_or, ◌≡◌, ◌≤◌, ◌<◌, ◌-◌, ◌+◌, ◌==◌, ℕ, sym, ap, subst, ◌∙◌, arith, true, Bool, cond, not, Some, None}
+use Rattle.std.proofs.Common.{List, length, take, drop, get_or, ◌≡◌, ◌≤◌, ◌<◌, ◌-◌, ◌+◌, ◌==◌, ℕ, sym, ap, subst, ◌∙◌, arith, true, cond, not, Some, None}
 use Rattle.std.specs.List.{slice_range, suffix_len}
-use Rattle.std.proofs.lemmas.Bool.Decides.{nat_tests}
 use Rattle.std.proofs.lemmas.List.{drop-take, get_or-take, length-take-le, take-take}
-use Rattle.std.proofs.lemmas.List.Sums.{suffix_len-le-length}
 use Rattle.md_rules.specs.Attributes.{Braced, braced, braced_at, ends_with, is_brace, to_last_brace}
 
 -- before the `{`, and between it and the `}` at the end

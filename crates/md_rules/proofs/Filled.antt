@@ -1,11 +1,11 @@
 -- How many lines are not empty: containers never hold more of them than the lines that they take.
-use Rattle.std.proofs.Common.{List, [], ◌∷◌, length, drop, take, map, ◌≡◌, ◌≤◌, ◌<◌, ◌+◌, ◌*◌, ◌==◌, ℕ, zero, suc, refl, sym, ap, ◌∙◌, arith, Bool, true, false, cond, ◌&&◌}
+use Rattle.std.proofs.Common.{List, [], ◌∷◌, length, drop, take, map, ◌≡◌, ◌≤◌, ◌+◌, ◌*◌, ◌==◌, ℕ, zero, suc, refl, ap, arith, Bool, true, false, cond, ◌&&◌}
 use Rattle.std.proofs.lemmas.Bool.{false≢true}
 use Rattle.term_text.specs.LineEnds.{ended, ends_line, in_front, raw_lines}
 use Rattle.md_lines.specs.Lines.{LineText, is_empty, is_nothing, line_of, lines_of}
 use Rattle.md_rules.specs.Shallow.{is_shallow}
 use Rattle.md_rules.specs.Texts.{begins_with}
-use Rattle.md_rules.specs.Quotes.{first_alert, less, quoted, quotes, unquoted, without_kind}
+use Rattle.md_rules.specs.Quotes.{less, quoted, quotes, unquoted, without_kind}
 use Rattle.md_rules.specs.Items.{item_lines, task_of, without_task}
 use Rattle.md_tree.specs.declared.event.BlockQuoteKind.{BlockQuoteKind}
 use Rattle.std.specs.Prelude.{Option, Some, None}

@@ -1,5 +1,5 @@
 -- Where a line may be cut behind a marker or a task mark.
-use Rattle.std.proofs.Common.{rules, ◌^◌, List, [], ◌∷◌, length, drop, take, get_or, ◌≡◌, ◌≤◌, ◌<◌, ◌+◌, ◌==◌, ℕ, zero, suc, refl, sym, ap, subst, ◌∙◌, arith, true, false, Bool, cond, ◌&&◌, ◌||◌, nat_le, Option, Some, None}
+use Rattle.std.proofs.Common.{rules, ◌^◌, List, [], ◌∷◌, length, drop, take, get_or, ◌≡◌, ◌≤◌, ◌<◌, ◌+◌, ◌==◌, ℕ, zero, suc, refl, ap, subst, ◌∙◌, arith, true, false, Bool, cond, ◌&&◌, ◌||◌, nat_le, Some, None}
 use Rattle.std.specs.Str.{IsCharBoundary, IsUtf8}
 use Rattle.std.specs.Str.Parse.{digits_value}
 use Rattle.std.proofs.lemmas.Bool.{false≢true}
@@ -10,19 +10,12 @@ use Rattle.std.proofs.lemmas.List.{length-take-le}
 use Rattle.std.proofs.lemmas.List.Sums.{prefix_len-le-length}
 use Rattle.std.proofs.lemmas.Str.Parse.{IsNumeralModel, digits_value_short, numerals_by_value}
 use Rattle.std.proofs.lemmas.Str.{IsCharBoundary-after_ascii}
+use Rattle.md_tree.proofs.Nodes.{and_left, and_right}
 use Rattle.md_lines.specs.Lines.{LineText}
 use Rattle.md_rules.specs.Shallow.{is_shallow}
 use Rattle.md_rules.specs.Texts.{ends_word}
 use Rattle.md_rules.specs.Items.{digits, ends_number, has_number, is_bullet, is_task, marker_in, marker_of, numbered, task_by, task_of}
 use Rattle.md_rules.specs.declared.item.Marker.{Marker}
-
-and-left : (a b : Bool) → (a && b) ≡ true → a ≡ true
-and-left true b h = refl
-and-left false b h = absurd (false≢true h)
-
-and-right : (a b : Bool) → (a && b) ≡ true → b ≡ true
-and-right true b h = h
-and-right false b h = absurd (false≢true h)
 
 le_nine : (n : ℕ) → (nat_le 1 n && nat_le n 9) ≡ true → n ≤ 9
 le_nine n h = grind (arith, nat_tests)
@@ -36,7 +29,7 @@ delimiter-ascii b e = grind (arith, nat_tests)
 ends_number-place : (n : ℕ) (body : List ℕ) → ends_number (drop n body) ≡ true → (n < length body) × (get_or body n 0 < 128)
 ends_number-place zero [] h = absurd (false≢true h)
 ends_number-place (suc n) [] h = absurd (false≢true h)
-ends_number-place zero (b ∷ bs) h = (omega arith, delimiter-ascii b (and-left (b == 46 || b == 41) (ends_word bs) h))
+ends_number-place zero (b ∷ bs) h = (omega arith, delimiter-ascii b (and_left (b == 46 || b == 41) (ends_word bs) h))
 ends_number-place (suc n) (b ∷ bs) h = let p = ends_number-place n bs h in (omega (arith, p.0), p.1)
 
 behind-byte : (body : List ℕ) (n k : ℕ) → IsUtf8 body → n < length body → get_or body n 0 < 128 → n + 1 ≡ k → IsCharBoundary body k
@@ -53,7 +46,7 @@ numbered-boundary body n m utf8 h = go (has_number n body) refl h
 
     go : (v : Bool) → has_number n body ≡ v → cond v (Some found) None ≡ Some m → IsCharBoundary body m.length
     go true e h =
-        let p = ends_number-place n body (and-right (nat_le 1 n && nat_le n 9) (ends_number (drop n body)) e) in
+        let p = ends_number-place n body (and_right (nat_le 1 n && nat_le n 9) (ends_number (drop n body)) e) in
         behind-byte body n m.length utf8 p.0 p.1 (marker-same found m h)
     go false e h = cc
 
@@ -65,7 +58,7 @@ marker_in-boundary (b ∷ bs) m utf8 h = go (is_bullet b && ends_word bs) refl h
     bullet = record { kind = b; length = 1; number = None }
 
     go : (v : Bool) → (is_bullet b && ends_word bs) ≡ v → cond v (Some bullet) (numbered (digits (b ∷ bs)) (b ∷ bs)) ≡ Some m → IsCharBoundary (b ∷ bs) m.length
-    go true e h = behind-byte (b ∷ bs) 0 m.length utf8 (omega arith) (bullet-ascii b (and-left (is_bullet b) (ends_word bs) e)) (marker-same bullet m h)
+    go true e h = behind-byte (b ∷ bs) 0 m.length utf8 (omega arith) (bullet-ascii b (and_left (is_bullet b) (ends_word bs) e)) (marker-same bullet m h)
     go false e h = numbered-boundary (b ∷ bs) (digits (b ∷ bs)) m utf8 h
 
 pub marker-boundary : (line : LineText) (m : Marker) → IsUtf8 line.body → marker_of line ≡ Some m → IsCharBoundary line.body m.length
@@ -82,7 +75,7 @@ pub task-boundary : (line : LineText) (done : Bool) → IsUtf8 line.body → tas
 task-boundary line done utf8 h = go (is_shallow line && is_task line.body) refl h
   where
     go : (v : Bool) → (is_shallow line && is_task line.body) ≡ v → cond v (task_by (get_or line.body 1 0)) None ≡ Some done → IsCharBoundary line.body 3
-    go true e h = let p = task-bytes line.body (and-right (is_shallow line) (is_task line.body) e) in IsCharBoundary-after_ascii line.body 2 utf8 p.0 p.1
+    go true e h = let p = task-bytes line.body (and_right (is_shallow line) (is_task line.body) e) in IsCharBoundary-after_ascii line.body 2 utf8 p.0 p.1
     go false e h = cc
 
 -- the value of ASCII digits
@@ -105,7 +98,7 @@ numbered-small body m v h n = go (has_number (digits body) body) refl h
     found = record { kind = get_or body (digits body) 0; length = digits body + 1; number = Some (digits_value 10 (take (digits body) body)) }
 
     short : has_number (digits body) body ≡ true → digits body ≤ 9
-    short e = le_nine (digits body) (and-left (nat_le 1 (digits body) && nat_le (digits body) 9) (ends_number (drop (digits body) body)) e)
+    short e = le_nine (digits body) (and_left (nat_le 1 (digits body) && nat_le (digits body) 9) (ends_number (drop (digits body) body)) e)
 
     value : has_number (digits body) body ≡ true → digits_value 10 (take (digits body) body) < 10 ^ 9
     value e =

@@ -1,5 +1,5 @@
 -- Parts of one line are on one line.
-use Rattle.std.proofs.Common.{List, [], ◌∷◌, ◌++◌, take, drop, ◌≡◌, ℕ, sym, ap, ◌∙◌, true}
+use Rattle.std.proofs.Common.{List, take, drop, ◌≡◌, ℕ, ap, ◌∙◌, true}
 use Rattle.std.specs.List.{prefix_len}
 use Rattle.std.proofs.lemmas.List.{take-append-drop}
 use Rattle.term_text.specs.LineEnds.{is_one_line}

@@ -1,5 +1,5 @@
 -- Where a line's text may be cut, and its words one by one.
-use Rattle.std.proofs.Common.{◌-◌, reverse, List, [], ◌∷◌, length, take, drop, get_or, ◌≡◌, ◌≤◌, ◌<◌, ◌+◌, ◌==◌, ℕ, zero, suc, refl, sym, ap, subst, ◌∙◌, arith, true, false, Bool, cond, not}
+use Rattle.std.proofs.Common.{◌-◌, reverse, List, [], ◌∷◌, length, take, drop, get_or, ◌≡◌, ◌<◌, ◌+◌, ℕ, zero, suc, refl, sym, ap, subst, ◌∙◌, arith, true, false, Bool, cond, not}
 use Rattle.std.specs.List.{prefix_len, position_or_len, suffix_len}
 use Rattle.std.specs.Str.{IsCharBoundary, IsUtf8}
 use Rattle.std.proofs.lemmas.Bool.{false≢true}

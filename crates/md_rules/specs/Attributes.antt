@@ -1,5 +1,5 @@
 -- The attributes of a heading.
-use Rattle.std.specs.Prelude.{ℕ, ◌-◌, ◌+◌, ◌==◌, Bool, true, false, not, ◌&&◌, ◌||◌, Option, None, Some, List, [], ◌∷◌, ◌++◌, length, take, drop, slice_index_or, if◌then◌else◌}
+use Rattle.std.specs.Prelude.{ℕ, ◌-◌, ◌==◌, Bool, not, ◌||◌, Option, None, Some, List, [], ◌∷◌, ◌++◌, length, take, drop, slice_index_or, if◌then◌else◌}
 use Rattle.std.specs.List.{position_or_len, before_first, after_first, suffix_len}
 use Rattle.md_lines.specs.Lines.{is_nothing}
 use Rattle.md_rules.specs.declared.attributes.Attribute.{Attribute}

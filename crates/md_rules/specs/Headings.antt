@@ -1,5 +1,5 @@
 -- Headings.
-use Rattle.std.specs.Prelude.{ℕ, ◌-◌, ◌==◌, nat_le, Bool, ◌&&◌, ◌||◌, Option, None, Some, List, [], length, take, drop, slice_index_or, if◌then◌else◌}
+use Rattle.std.specs.Prelude.{ℕ, ◌-◌, ◌==◌, Bool, ◌&&◌, ◌||◌, Option, None, Some, List, length, take, drop, slice_index_or, if◌then◌else◌}
 use Rattle.std.specs.List.{prefix_len, suffix_len}
 use Rattle.md_tree.specs.declared.event.HeadingLevel.{HeadingLevel}
 use Rattle.md_tree.specs.declared.event.HeadingLevel.TheVariants.{H1, H2, H3, H4, H5, H6}

@@ -1,5 +1,5 @@
 -- Quotes and alerts.
-use Rattle.std.specs.Prelude.{ℕ, ◌-◌, ◌==◌, Bool, true, false, ◌&&◌, Option, None, Some, List, [], ◌∷◌, drop, codes, if◌then◌else◌}
+use Rattle.std.specs.Prelude.{ℕ, ◌-◌, Bool, true, false, ◌&&◌, Option, None, Some, List, [], ◌∷◌, drop, codes, if◌then◌else◌}
 use Rattle.std.specs.Char.{eq_ignore_ascii_case}
 use Rattle.md_tree.specs.declared.event.BlockQuoteKind.{BlockQuoteKind}
 use Rattle.md_tree.specs.declared.event.BlockQuoteKind.TheVariants.{Note, Tip, Important, Warning, Caution}

@@ -12,7 +12,7 @@ use term_text::CowStr;
 
 /// What an attribute word says.
 #[derive(Drop)]
-pub enum Attribute<'a> {
+pub(crate) enum Attribute<'a> {
     Id(CowStr<'a>),
     Class(CowStr<'a>),
     /// A key, and its value where it has one.
@@ -21,7 +21,7 @@ pub enum Attribute<'a> {
 
 /// What the attribute words of a heading say together.
 #[derive(Drop)]
-pub struct Attributes<'a> {
+pub(crate) struct Attributes<'a> {
     /// The last id.
     pub id: Option<CowStr<'a>>,
     pub classes: Classes<'a>,

@@ -12,7 +12,6 @@ mod rule;
 mod shallow;
 mod texts;
 
-pub use attributes::{Attribute, Attributes};
 pub use code::{hanging, is_code, text_from};
 pub use fence::{Fence, fence_of};
 pub use heading::{Heading, heading_level, heading_of};
@@ -20,4 +19,6 @@ pub use item::{Marker, item_interrupts, item_lines, marker_of, task_of};
 pub use list::{begins_leaf, is_loose, list_more, next_item};
 pub use quote::{first_alert, is_dashes, quoted, quotes, without_kind};
 pub use rule::is_rule;
-pub use texts::run_length;
+
+#[cfg(test)]
+mod tests;

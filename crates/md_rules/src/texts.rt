@@ -22,7 +22,7 @@ fn solids(bytes: &[u8]) -> usize
 }
 
 /// How many of the bytes at the start are this one.
-pub fn run_length(mark: u8, bytes: &[u8]) -> usize
+pub(crate) fn run_length(mark: u8, bytes: &[u8]) -> usize
     ensures { result ≡ prefix_len (λ b. b == mark) bytes.now }
 {
     bytes.iter().take_while(|b| **b == mark).count()

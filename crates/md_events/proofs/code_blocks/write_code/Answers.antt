@@ -1,4 +1,4 @@
-use Rattle.std.proofs.Common.{◌≡◌, ◌++◌, ◌∷◌, [], ap, ◌∙◌, refl}
+use Rattle.std.proofs.Common.{◌++◌, ◌∷◌, [], ap, ◌∙◌, refl}
 use Rattle.md_tree.specs.declared.event.Event.TheVariants.{End}
 use Rattle.md_tree.specs.Tree.{events}
 use Rattle.md_tree.specs.declared.event.Tag.TheVariants.{CodeBlock}

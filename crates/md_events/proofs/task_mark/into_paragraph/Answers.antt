@@ -1,4 +1,4 @@
-use Rattle.std.proofs.Common.{◌≡◌, ap, sym, ◌∙◌, drop, true, length, arith, ◌<◌, ◌+◌, List}
+use Rattle.std.proofs.Common.{◌≡◌, ap, sym, ◌∙◌, drop, true, arith, List}
 use Rattle.md_tree.specs.declared.event.Event.{Event}
 use Rattle.md_tree.specs.declared.event.Event.TheVariants.{SoftBreak}
 use Rattle.md_events.specs.Written.{begins_paragraph}

@@ -1,7 +1,7 @@
 use Rattle.std.proofs.Common.{◌≡◌, ◌∷◌, [], List, ℕ, Option, None, Some, ap, sym, ◌∙◌, refl}
 use Rattle.md_rules.specs.Texts.{words}
 use Rattle.md_rules.specs.declared.attributes.Attributes.{Attributes}
-use Rattle.md_rules.specs.Attributes.{attribute_of, attributes_after, attributes_in, with_word}
+use Rattle.md_rules.specs.Attributes.{attribute_of, attributes_after, with_word}
 use Rattle.md_rules.proofs.attributes.attributes_in.Goals as goal
 
 attributes_after-none : (words : List (List ℕ)) → attributes_after None words ≡ None

@@ -1,4 +1,4 @@
-use Rattle.std.proofs.Common.{◌≡◌, ◌-◌, ◌∙◌, List, ℕ, Bool, true, false, cond, ap, sym, length, take}
+use Rattle.std.proofs.Common.{◌≡◌, ◌-◌, ◌∙◌, List, ℕ, Bool, true, false, cond, ap, length}
 use Rattle.std.specs.List.{suffix_len}
 use Rattle.term_text.specs.LineEnds.{is_one_line}
 use Rattle.md_rules.specs.Texts.{trimmed}

@@ -1,4 +1,4 @@
-use Rattle.std.proofs.Common.{◌≡◌, ◌∙◌, ap, drop, List, ℕ}
+use Rattle.std.proofs.Common.{◌∙◌, ap, drop, List, ℕ}
 use Rattle.term_text.specs.LineEnds.{is_one_line}
 use Rattle.md_lines.proofs.LineLemmas.{is_one_line-drop}
 use Rattle.md_rules.specs.Headings.{hashes}

@@ -1,4 +1,4 @@
-use Rattle.std.proofs.Common.{◌≡◌, ◌∙◌, ap}
+use Rattle.std.proofs.Common.{◌∙◌, ap}
 use Rattle.term_text.specs.LineEnds.{is_one_line}
 use Rattle.md_rules.proofs.OneLine.{is_one_line-trimmed}
 use Rattle.md_rules.proofs.heading.heading_with.Goals as goal

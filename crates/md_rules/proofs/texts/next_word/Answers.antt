@@ -1,6 +1,6 @@
-use Rattle.std.proofs.Common.{◌≡◌, ◌<◌, ◌==◌, ◌∷◌, [], List, ℕ, ap, subst, sym, ◌∙◌, not, true, length, arith, refl}
+use Rattle.std.proofs.Common.{◌≡◌, ◌<◌, List, ℕ, ap, subst, sym, ◌∙◌, not, true, length, arith}
 use Rattle.std.proofs.lemmas.Bool.Decides.{nat_tests}
-use Rattle.md_rules.specs.Texts.{ends_word, without_start_blanks, words}
+use Rattle.md_rules.specs.Texts.{ends_word, words}
 use Rattle.md_rules.proofs.TextLemmas.{words-skip, without_start_blanks-solid, words-none}
 use Rattle.md_rules.proofs.texts.next_word.Goals as goal
 
