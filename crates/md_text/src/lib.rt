@@ -12,6 +12,8 @@ mod options;
 mod render;
 #[cfg(test)]
 mod tests;
+#[cfg(test)]
+mod text_tests;
 
 pub use error::RenderError;
 pub use highlight::{AnsiFence, Highlighter, NoHighlight};

@@ -30,6 +30,7 @@ fn style_name(style: Style) -> &'static str {
         (sheet.blockquote(), "<quote>"),
         (sheet.alert(AlertKind::Note), "<note>"),
         (sheet.alert(AlertKind::Note).bold(), "<bold note>"),
+        (sheet.alert(AlertKind::Tip).bold(), "<bold quote>"),
         (sheet.heading(1).patch(sheet.blockquote()), "<h1 quote>"),
         (sheet.list_marker(), "<marker>"),
         (Style::reset(), "<reset>"),
@@ -56,7 +57,7 @@ fn draw_line(drawn: &mut String, line: &Line) -> Result<(), AllocError> {
 }
 
 // The spans of each line between bars, with the names of styles behind them and before the line.
-fn drawn(alloc: Global, text: &Text) -> Result<String, AllocError> {
+pub(crate) fn drawn(alloc: Global, text: &Text) -> Result<String, AllocError> {
     let mut drawn = String::new(alloc);
     for line in text.lines() {
         draw_line(&mut drawn, line)?;
