@@ -1,0 +1,9 @@
+use Rattle.std.proofs.Common.{◌≡◌, ℕ, ◌+◌, ◌-◌, ◌<◌, ◌≤◌, List, [], ◌∷◌, ◌++◌, drop, take, length, map, max, replicate, sum_by, string_bytes}
+use Rattle.md_picture.specs.Picture.{strokes, columns_of, height_of, row_parts, span_width, spans_width, body_lines, bar}
+use Rattle.md_picture.specs.Cells.{with_row, widest, narrowest, glyph}
+use Rattle.std.specs.Prelude.{codes, encode_utf8_all}
+use Rattle.term_text.specs.Lists.{joined}
+use Rattle.md_picture.proofs.border.push_stroke.Given as goal
+
+abbrev pub invariant-loop-i : goal.invariant-loop-i
+invariant-loop-i l = string_bytes l.text ≡ string_bytes l.fn.text ++ joined (replicate l.i (encode_utf8_all (codes "─")))

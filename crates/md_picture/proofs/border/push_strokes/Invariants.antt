@@ -1,0 +1,7 @@
+use Rattle.std.proofs.Common.{◌≡◌, ℕ, ◌+◌, ◌-◌, ◌<◌, ◌≤◌, List, [], ◌∷◌, ◌++◌, drop, take, length, map, max, replicate, string_bytes}
+use Rattle.md_picture.specs.Picture.{strokes, columns_of, height_of, row_parts, spans_width, body_lines, bar}
+use Rattle.md_picture.specs.Cells.{with_row, widest, narrowest, glyph}
+use Rattle.md_picture.proofs.border.push_strokes.Given as goal
+
+abbrev pub invariant-loop-column : goal.invariant-loop-column
+invariant-loop-column l = string_bytes l.text ++ strokes l.edge (drop l.column-index l.columns) ≡ string_bytes l.fn.text ++ strokes l.edge l.columns

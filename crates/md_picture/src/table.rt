@@ -1,0 +1,147 @@
+// Tables and their pictures.
+ghost use Rattle.std.specs.Prelude.{◌≡◌, ◌++◌, ◌∷◌, [], IfOk, OnOk, OnErr};
+ghost use Rattle.md_picture.specs.declared.border.Edge.TheVariants.{Middle};
+ghost use Rattle.md_picture.specs.Fits.{RowsFit};
+ghost use Rattle.md_picture.specs.Picture.{TableView, body_lines, border_line, divider, picture, picture_of, table_columns};
+
+use crate::border::{Edge, border_line};
+use crate::columns::{Column, bounds_of, columns_of, widths_of};
+use crate::row::row_lines;
+use crate::styles::Styles;
+use std::alloc::{AllocError, Global};
+use std::marker::Model;
+use term_text::{Alignment, Line};
+
+/// The cells of a row, each a line of spans.
+#[derive(Drop)]
+pub struct Row<'a> {
+    cells: Vec<Line<'a>>,
+}
+
+impl<'a> Model for Row<'a> {
+    ghost use Rattle.std.specs.Prelude.{List};
+    ghost use Rattle.term_text.specs.Text.{LineView};
+
+    ghost Value = { List LineView };
+
+    ghost view = { λ row. row.cells.items };
+}
+
+impl<'a> Row<'a> {
+    /// No cells. It takes no memory.
+    pub fn new(alloc: Global) -> Row<'a>
+        ensures { result ≡ [] }
+    {
+        Row {
+            cells: Vec::new(alloc),
+        }
+    }
+
+    /// Adds a cell at the end. After want of memory the row is as before.
+    pub fn push(&mut self, cell: Line<'a>) -> Result<(), AllocError>
+        ensures ok { OnOk result (self.new ≡ self.old ++ cell.entry ∷ []) }
+        ensures err { OnErr result (self.new ≡ self.old) }
+    {
+        self.cells.push(cell)?;
+        Ok(())
+    }
+
+    /// The cells.
+    pub fn cells(&self) -> &[Line<'a>]
+        ensures { result.now ≡ self.now }
+    {
+        self.cells.as_slice()
+    }
+}
+
+/// A table: a header and rows, and the sides that its columns keep to.
+#[derive(Drop)]
+pub struct Table<'a> {
+    alignments: Vec<Alignment>,
+    header: Row<'a>,
+    rows: Vec<Row<'a>>,
+}
+
+impl<'a> Model for Table<'a> {
+    ghost use Rattle.md_picture.specs.Fits.{RowsFit};
+ghost use Rattle.md_picture.specs.Picture.{TableView};
+
+    ghost Value = { TableView };
+
+    ghost view = { λ table. record { alignments = table.alignments.items; header = table.header; rows = table.rows.items } };
+}
+
+impl<'a> Table<'a> {
+    /// A table with these alignments, without rows. It takes no memory.
+    pub fn new(alloc: Global, alignments: Vec<Alignment>) -> Table<'a>
+        ensures { result ≡ record { alignments = alignments.items; header = []; rows = [] } }
+    {
+        Table {
+            alignments,
+            header: Row::new(alloc),
+            rows: Vec::new(alloc),
+        }
+    }
+
+    /// Sets the header, in place of an earlier one.
+    pub fn set_header(&mut self, header: Row<'a>)
+        ensures { self.new ≡ record self.old { header = header.entry } }
+    {
+        let _ = std::mem::replace(&mut self.header, header);
+    }
+
+    /// Adds a row at the end. After want of memory the table is as before.
+    pub fn push_row(&mut self, row: Row<'a>) -> Result<(), AllocError>
+        ensures ok { OnOk result (self.new ≡ record self.old { rows = self.old.rows ++ row.entry ∷ [] }) }
+        ensures err { OnErr result (self.new ≡ self.old) }
+    {
+        self.rows.push(row)?;
+        Ok(())
+    }
+
+    /// The lines of the table's picture, in a width of so many columns of cells if one is set, with a border line
+    /// between two rows if dividers are shown.
+    pub fn picture(&self, alloc: Global, styles: Styles, width: Option<usize>, dividers: bool) -> Result<Vec<Line<'a>>, AllocError>
+        ensures { IfOk result (λ lines. lines.items ≡ picture styles width dividers self.now) }
+    {
+        let bounds = bounds_of(alloc, self.alignments.len(), &self.header, self.rows.as_slice())?;
+        let widths = widths_of(alloc, width, bounds.as_slice())?;
+        let columns = columns_of(alloc, widths.as_slice(), self.alignments.as_slice())?;
+        let mut lines = Vec::new(alloc);
+        if columns.is_empty() {
+            return Ok(lines);
+        }
+        let columns = columns.as_slice();
+        lines.push(border_line(alloc, styles.border, Edge::Top, columns)?)?;
+        let mut header = row_lines(alloc, styles.border, styles.header, columns, self.header.cells())?;
+        lines.append(&mut header)?;
+        lines.push(border_line(alloc, styles.border, Edge::Middle, columns)?)?;
+        push_body(alloc, &mut lines, styles, dividers, columns, self.rows.as_slice())?;
+        lines.push(border_line(alloc, styles.border, Edge::Bottom, columns)?)?;
+        Ok(lines)
+    }
+}
+
+/// Adds the lines of rows.
+fn push_body<'a>(
+    alloc: Global,
+    lines: &mut Vec<Line<'a>>,
+    styles: Styles,
+    dividers: bool,
+    columns: &[Column],
+    rows: &[Row<'a>],
+) -> Result<(), AllocError>
+    requires { RowsFit columns.now rows.now }
+    ensures { OnOk result (lines.new.items ≡ lines.old.items ++ body_lines styles dividers columns.now rows.now) }
+{
+    let mut at = 0;
+    while at < rows.len() {
+        let mut row = row_lines(alloc, styles.border, styles.cell, columns, rows[at].cells())?;
+        lines.append(&mut row)?;
+        at += 1;
+        if dividers && at < rows.len() {
+            lines.push(border_line(alloc, styles.border, Edge::Middle, columns)?)?;
+        }
+    }
+    Ok(())
+}
