@@ -1,2 +1,6 @@
 pub mod Strokes
 pub mod Heights
+pub mod Widening
+pub mod Borders
+pub mod Parts
+pub mod Fitting

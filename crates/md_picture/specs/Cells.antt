@@ -1,5 +1,5 @@
 -- Cells of a table, and the bounds of its columns.
-use Rattle.std.specs.Prelude.{ℕ, nat_le, true, if◌then◌else◌, List, [], ◌∷◌, fold, length, map, max, replicate}
+use Rattle.std.specs.Prelude.{ℕ, nat_le, true, if◌then◌else◌, List, [], ◌∷◌, fold, map, max, replicate}
 use Rattle.term_text.specs.Graph.{Grapheme, columns, graphs}
 use Rattle.term_text.specs.Style.{no_style, patch}
 use Rattle.term_text.specs.Text.{SpanView, LineView}

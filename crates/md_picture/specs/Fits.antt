@@ -1,5 +1,5 @@
 -- Cells that fit their columns.
-use Rattle.std.specs.Prelude.{ℕ, List, [], ◌∷◌}
+use Rattle.std.specs.Prelude.{List, [], ◌∷◌}
 use Rattle.term_text.specs.Graph.{graphs}
 use Rattle.term_text.specs.Text.{LineView}
 use Rattle.term_text.specs.Wrap.{NoneWider}

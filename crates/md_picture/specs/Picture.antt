@@ -1,5 +1,5 @@
 -- The picture of a table.
-use Rattle.std.specs.Prelude.{ℕ, ◌+◌, ◌-◌, ◌*◌, ◌/◌, Bool, false, if◌then◌else◌, Option, None, Some, List, [], ◌∷◌, ◌++◌, codes, encode_utf8_all, fold, length, map, max, replicate, sum_by}
+use Rattle.std.specs.Prelude.{ℕ, ◌+◌, ◌-◌, ◌*◌, ◌/◌, Bool, false, if◌then◌else◌, ◌==◌, Option, None, Some, List, [], ◌∷◌, ◌++◌, codes, encode_utf8_all, length, map, max, replicate, sum_by}
 use Rattle.term_text.specs.Graph.{columns, visible, pieces_of}
 use Rattle.term_text.specs.Lists.{joined}
 use Rattle.term_text.specs.Style.{no_style}
@@ -97,20 +97,41 @@ left_room _ room = 0
 abbrev pub pad : ℕ → Style → SpanView
 pad room style = styled (replicate (room + 1) 32) style
 
+-- a cell's spans in its style; those without text add nothing
+unfoldable pub cell_spans : Style → List SpanView → List SpanView
+cell_spans style [] = []
+cell_spans style (span ∷ spans) =
+    if length span.text == 0 then cell_spans style spans else patched style span ∷ cell_spans style spans
+
+-- the blanks that a cell's spans leave in its column
+abbrev pub room_of : Column → List SpanView → ℕ
+room_of column spans = column.width - spans_width spans
+
 -- a cell's part of a line: a pad, its spans, a pad, and the border behind it
 abbrev pub part : Style → Style → Column → List SpanView → List SpanView
 part border style column spans =
-    let room = column.width - spans_width spans in
+    let room = room_of column spans in
     let left = left_room column.alignment room in
-    pad left style ∷ (map (λ span. patched style span) spans ++ (pad (room - left) style ∷ bar border ∷ []))
+    pad left style ∷ (cell_spans style spans ++ (pad (room - left) style ∷ bar border ∷ []))
+
+-- a line with spans behind it
+abbrev pub lengthened : LineView → List SpanView → LineView
+lengthened line spans = record line { spans = line.spans ++ spans }
+
+-- the first of a cell's rows, and the others; behind the last they are empty
+abbrev pub first_part : List (List SpanView) → List SpanView
+first_part [] = []
+first_part (spans ∷ parts) = spans
+
+abbrev pub other_parts : List (List SpanView) → List (List SpanView)
+other_parts [] = []
+other_parts (spans ∷ parts) = parts
 
 -- a cell's rows are added to the lines of its row of the table, and blanks where it has no more
 unfoldable pub with_parts : Style → Style → Column → List LineView → List (List SpanView) → List LineView
 with_parts border style column [] parts = []
-with_parts border style column (line ∷ lines) [] =
-    record line { spans = line.spans ++ part border style column [] } ∷ with_parts border style column lines []
-with_parts border style column (line ∷ lines) (spans ∷ parts) =
-    record line { spans = line.spans ++ part border style column spans } ∷ with_parts border style column lines parts
+with_parts border style column (line ∷ lines) parts =
+    lengthened line (part border style column (first_part parts)) ∷ with_parts border style column lines (other_parts parts)
 
 -- the cell of the first column, and those of the others; a cell that is missing is empty
 abbrev pub first_cell : List LineView → LineView
@@ -156,14 +177,18 @@ body_lines styles dividers columns (row ∷ rows) =
     row_lines styles.border styles.cell columns row
     ++ (divider dividers (border_line styles.border Middle columns) rows ++ body_lines styles dividers columns rows)
 
+-- the lines of a header and rows in these columns
+abbrev pub lines_of : Styles → Bool → List Column → List LineView → List (List LineView) → List LineView
+lines_of styles dividers columns header rows =
+    border_line styles.border Top columns
+    ∷ (row_lines styles.border styles.header columns header
+    ++ (border_line styles.border Middle columns
+    ∷ (body_lines styles dividers columns rows ++ (border_line styles.border Bottom columns ∷ []))))
+
+-- no columns give no lines
 abbrev pub picture_of : Styles → Bool → List Column → TableView → List LineView
 picture_of styles dividers [] table = []
-picture_of styles dividers (column ∷ others) table =
-    let columns = column ∷ others in
-    border_line styles.border Top columns
-    ∷ (row_lines styles.border styles.header columns table.header
-    ++ (border_line styles.border Middle columns
-    ∷ (body_lines styles dividers columns table.rows ++ (border_line styles.border Bottom columns ∷ []))))
+picture_of styles dividers (column ∷ columns) table = lines_of styles dividers (column ∷ columns) table.header table.rows
 
 -- the lines of a table, in a width if one is set
 abbrev pub picture : Styles → Option ℕ → Bool → TableView → List LineView

@@ -1,6 +1,6 @@
 // The border lines of a table.
-ghost use Rattle.std.specs.Prelude.{◌≡◌, ◌++◌, IfOk, OnOk, string_bytes};
-ghost use Rattle.md_picture.specs.Picture.{bar, border_line, border_text, cross_of, left_of, right_of, stroke, strokes};
+ghost use Rattle.std.specs.Prelude.{◌≡◌, ◌<◌, ◌++◌, ◌∷◌, [], IfOk, OnOk, length, string_bytes};
+ghost use Rattle.md_picture.specs.Picture.{bar, border_line, border_text, cross_of, left_of, lengthened, right_of, stroke, strokes};
 
 use crate::columns::Column;
 use std::alloc::{AllocError, Global};
@@ -53,15 +53,37 @@ pub(crate) fn bar<'a>(style: Style) -> Span<'a>
     Span::styled(CowStr::borrowed("│"), style)
 }
 
-/// The border line over or under the cells of these columns.
-pub(crate) fn border_line<'a>(alloc: Global, style: Style, edge: Edge, columns: &[Column]) -> Result<Line<'a>, AllocError>
+/// Adds the border between two cells to a line.
+pub(crate) fn push_bar(line: &mut Line, style: Style) -> Result<(), AllocError>
+    ensures { OnOk result (line.new ≡ lengthened line.old (bar style ∷ [])) }
+{
+    line.push_span(bar(style))?;
+    Ok(())
+}
+
+/// The border line over or under the cells of these columns, of which there is one at least.
+pub(crate) fn border_line<'a>(
+    alloc: Global,
+    style: Style,
+    edge: Edge,
+    columns: &[Column],
+) -> Result<Line<'a>, AllocError>
+    requires { 0 < length columns.now }
     ensures { IfOk result (λ line. line ≡ border_line style edge columns.now) }
+{
+    let span = Span::styled(CowStr::owned(border_text(alloc, edge, columns)?), style);
+    let mut line = Line::new(alloc);
+    line.push_span(span)?;
+    Ok(line)
+}
+
+/// The text of a border line.
+fn border_text(alloc: Global, edge: Edge, columns: &[Column]) -> Result<String, AllocError>
+    ensures { IfOk result (λ text. string_bytes text ≡ border_text edge columns.now) }
 {
     let mut text = String::new(alloc);
     push_border(&mut text, edge, columns)?;
-    let mut line = Line::new(alloc);
-    line.push_span(Span::styled(CowStr::owned(text), style))?;
-    Ok(line)
+    Ok(text)
 }
 
 /// Adds the text of a border line.

@@ -77,7 +77,11 @@ pub(crate) fn bounded(bounds: Bounds, cell: &Line) -> Result<Bounds, AllocError>
 /// The rows of a cell in a column of this width: its spans if they fit, else the rows of its wrap.
 ///
 /// Each of its visible graphemes has to fit the column.
-pub(crate) fn cell_rows<'a>(alloc: Global, width: usize, cell: &Line<'a>) -> Result<CellRows<'a>, AllocError>
+pub(crate) fn cell_rows<'a>(
+    alloc: Global,
+    width: usize,
+    cell: &Line<'a>,
+) -> Result<CellRows<'a>, AllocError>
     requires { NoneWider width (graphs cell.now) }
     ensures { IfOk result (λ rows. rows ≡ cell_rows width cell.now) }
 {

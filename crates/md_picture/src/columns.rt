@@ -1,6 +1,6 @@
 // The columns of a table.
-ghost use Rattle.std.specs.Prelude.{◌≡◌, ◌∷◌, ◌<◌, IfOk, OnOk, length};
-ghost use Rattle.md_picture.specs.Cells.{bounds_of, with_cell, with_row};
+ghost use Rattle.std.specs.Prelude.{◌≡◌, ◌≤◌, ◌++◌, ◌∷◌, [], IfOk, OnOk, drop, length, take};
+ghost use Rattle.md_picture.specs.Cells.{bounds_of, with_row};
 ghost use Rattle.md_picture.specs.Picture.{budget_of, columns_of, widths_of};
 
 use crate::cell::bounded;
@@ -17,7 +17,12 @@ pub(crate) struct Column {
 }
 
 /// The bounds of the columns of a table with so many alignments, a header and rows.
-pub(crate) fn bounds_of(alloc: Global, alignments: usize, header: &Row, rows: &[Row]) -> Result<Vec<Bounds>, AllocError>
+pub(crate) fn bounds_of(
+    alloc: Global,
+    alignments: usize,
+    header: &Row,
+    rows: &[Row],
+) -> Result<Vec<Bounds>, AllocError>
     ensures { IfOk result (λ bounds. bounds.items ≡ bounds_of alignments (header.now ∷ rows.now)) }
 {
     let mut bounds = Vec::with_capacity(alloc, alignments)?;
@@ -31,24 +36,35 @@ pub(crate) fn bounds_of(alloc: Global, alignments: usize, header: &Row, rows: &[
     Ok(bounds)
 }
 
-/// Widens the bounds by the cells of a row.
-#[tactic(auto, unfolding(crate::specs::Cells::with_row))]
+/// Widens the bounds by the cells of a row; a row that is longer makes columns.
 fn add_row(bounds: &mut Vec<Bounds>, cells: &[Line]) -> Result<(), AllocError>
     ensures { OnOk result (bounds.new.items ≡ with_row bounds.old.items cells.now) }
 {
-    let mut at = 0;
-    while at < cells.len() {
-        if at == bounds.len() {
-            bounds.push(Bounds { least: 1, most: 1 })?;
-        }
-        bounds[at] = bounded(bounds[at], &cells[at])?;
-        at += 1;
+    for at in 0..cells.len() {
+        add_cell(bounds, at, &cells[at])?;
     }
     Ok(())
 }
 
+/// Widens the bounds at a place by a cell, or adds a column there.
+fn add_cell(bounds: &mut Vec<Bounds>, at: usize, cell: &Line) -> Result<(), AllocError>
+    requires { at ≤ length bounds.now.items }
+    ensures { OnOk result (bounds.new.items ≡ take at bounds.old.items ++ with_row (drop at bounds.old.items) (cell.now ∷ [])) }
+{
+    if at < bounds.len() {
+        bounds[at] = bounded(bounds[at], cell)?;
+        return Ok(());
+    }
+    bounds.push(bounded(Bounds { least: 1, most: 1 }, cell)?)?;
+    Ok(())
+}
+
 /// The widths of columns, in a width of the whole if one is set.
-pub(crate) fn widths_of(alloc: Global, width: Option<usize>, bounds: &[Bounds]) -> Result<Vec<usize>, AllocError>
+pub(crate) fn widths_of(
+    alloc: Global,
+    width: Option<usize>,
+    bounds: &[Bounds],
+) -> Result<Vec<usize>, AllocError>
     ensures { IfOk result (λ widths. widths.items ≡ widths_of width bounds.now) }
 {
     match width {
@@ -72,7 +88,11 @@ fn budget_of(width: usize, count: usize) -> usize
 
 /// The columns of these widths; those without an alignment have none.
 #[tactic(auto, unfolding(crate::specs::Picture::columns_of))]
-pub(crate) fn columns_of(alloc: Global, widths: &[usize], alignments: &[Alignment]) -> Result<Vec<Column>, AllocError>
+pub(crate) fn columns_of(
+    alloc: Global,
+    widths: &[usize],
+    alignments: &[Alignment],
+) -> Result<Vec<Column>, AllocError>
     ensures { IfOk result (λ columns. columns.items ≡ columns_of widths.now alignments.now) }
 {
     let mut columns = Vec::with_capacity(alloc, widths.len())?;

@@ -1,8 +1,8 @@
 // Tables and their pictures.
-ghost use Rattle.std.specs.Prelude.{◌≡◌, ◌++◌, ◌∷◌, [], IfOk, OnOk, OnErr};
+ghost use Rattle.std.specs.Prelude.{◌≡◌, ◌<◌, ◌++◌, ◌∷◌, [], IfOk, OnOk, OnErr, length};
 ghost use Rattle.md_picture.specs.declared.border.Edge.TheVariants.{Middle};
-ghost use Rattle.md_picture.specs.Fits.{RowsFit};
-ghost use Rattle.md_picture.specs.Picture.{TableView, body_lines, border_line, divider, picture, picture_of, table_columns};
+ghost use Rattle.md_picture.specs.Fits.{RowFits, RowsFit};
+ghost use Rattle.md_picture.specs.Picture.{TableView, body_lines, border_line, divider, lines_of, picture, row_lines, table_columns};
 
 use crate::border::{Edge, border_line};
 use crate::columns::{Column, bounds_of, columns_of, widths_of};
@@ -63,8 +63,7 @@ pub struct Table<'a> {
 }
 
 impl<'a> Model for Table<'a> {
-    ghost use Rattle.md_picture.specs.Fits.{RowsFit};
-ghost use Rattle.md_picture.specs.Picture.{TableView};
+    ghost use Rattle.md_picture.specs.Picture.{TableView};
 
     ghost Value = { TableView };
 
@@ -101,28 +100,70 @@ impl<'a> Table<'a> {
 
     /// The lines of the table's picture, in a width of so many columns of cells if one is set, with a border line
     /// between two rows if dividers are shown.
-    pub fn picture(&self, alloc: Global, styles: Styles, width: Option<usize>, dividers: bool) -> Result<Vec<Line<'a>>, AllocError>
+    pub fn picture(
+        &self,
+        alloc: Global,
+        styles: Styles,
+        width: Option<usize>,
+        dividers: bool,
+    ) -> Result<Vec<Line<'a>>, AllocError>
         ensures { IfOk result (λ lines. lines.items ≡ picture styles width dividers self.now) }
     {
-        let bounds = bounds_of(alloc, self.alignments.len(), &self.header, self.rows.as_slice())?;
-        let widths = widths_of(alloc, width, bounds.as_slice())?;
-        let columns = columns_of(alloc, widths.as_slice(), self.alignments.as_slice())?;
-        let mut lines = Vec::new(alloc);
+        let columns = self.columns(alloc, width)?;
         if columns.is_empty() {
-            return Ok(lines);
+            return Ok(Vec::new(alloc));
         }
-        let columns = columns.as_slice();
-        lines.push(border_line(alloc, styles.border, Edge::Top, columns)?)?;
-        let mut header = row_lines(alloc, styles.border, styles.header, columns, self.header.cells())?;
-        lines.append(&mut header)?;
-        lines.push(border_line(alloc, styles.border, Edge::Middle, columns)?)?;
-        push_body(alloc, &mut lines, styles, dividers, columns, self.rows.as_slice())?;
-        lines.push(border_line(alloc, styles.border, Edge::Bottom, columns)?)?;
-        Ok(lines)
+        lines_of(
+            alloc,
+            styles,
+            dividers,
+            columns.as_slice(),
+            &self.header,
+            self.rows.as_slice(),
+        )
+    }
+
+    /// The table's columns, in a width of the whole if one is set.
+    fn columns(&self, alloc: Global, width: Option<usize>) -> Result<Vec<Column>, AllocError>
+        ensures { IfOk result (λ columns. columns.items ≡ table_columns width self.now) }
+    {
+        let bounds = bounds_of(
+            alloc,
+            self.alignments.len(),
+            &self.header,
+            self.rows.as_slice(),
+        )?;
+        let widths = widths_of(alloc, width, bounds.as_slice())?;
+        columns_of(alloc, widths.as_slice(), self.alignments.as_slice())
     }
 }
 
+/// The lines of a header and rows in these columns, of which there is one at least.
+fn lines_of<'a>(
+    alloc: Global,
+    styles: Styles,
+    dividers: bool,
+    columns: &[Column],
+    header: &Row<'a>,
+    rows: &[Row<'a>],
+) -> Result<Vec<Line<'a>>, AllocError>
+    requires some { 0 < length columns.now }
+    requires header_fits { RowFits columns.now header.now }
+    requires rows_fit { RowsFit columns.now rows.now }
+    ensures { IfOk result (λ lines. lines.items ≡ lines_of styles dividers columns.now header.now rows.now) }
+{
+    let mut lines = Vec::new(alloc);
+    lines.push(border_line(alloc, styles.border, Edge::Top, columns)?)?;
+    let mut first = row_lines(alloc, styles.border, styles.header, columns, header.cells())?;
+    lines.append(&mut first)?;
+    lines.push(border_line(alloc, styles.border, Edge::Middle, columns)?)?;
+    push_body(alloc, &mut lines, styles, dividers, columns, rows)?;
+    lines.push(border_line(alloc, styles.border, Edge::Bottom, columns)?)?;
+    Ok(lines)
+}
+
 /// Adds the lines of rows.
+#[tactic(auto, unfolding(crate::specs::Picture::body_lines))]
 fn push_body<'a>(
     alloc: Global,
     lines: &mut Vec<Line<'a>>,
@@ -131,17 +172,47 @@ fn push_body<'a>(
     columns: &[Column],
     rows: &[Row<'a>],
 ) -> Result<(), AllocError>
-    requires { RowsFit columns.now rows.now }
+    requires some { 0 < length columns.now }
+    requires rows_fit { RowsFit columns.now rows.now }
     ensures { OnOk result (lines.new.items ≡ lines.old.items ++ body_lines styles dividers columns.now rows.now) }
 {
-    let mut at = 0;
-    while at < rows.len() {
-        let mut row = row_lines(alloc, styles.border, styles.cell, columns, rows[at].cells())?;
-        lines.append(&mut row)?;
-        at += 1;
-        if dividers && at < rows.len() {
-            lines.push(border_line(alloc, styles.border, Edge::Middle, columns)?)?;
-        }
+    for at in 0..rows.len() {
+        push_row(alloc, lines, styles, columns, &rows[at])?;
+        push_divider(alloc, lines, styles, dividers, columns, &rows[at + 1..])?;
+    }
+    Ok(())
+}
+
+/// Adds the lines of a row.
+fn push_row<'a>(
+    alloc: Global,
+    lines: &mut Vec<Line<'a>>,
+    styles: Styles,
+    columns: &[Column],
+    row: &Row<'a>,
+) -> Result<(), AllocError>
+    requires { RowFits columns.now row.now }
+    ensures { OnOk result (lines.new.items ≡ lines.old.items ++ row_lines styles.border styles.cell columns.now row.now) }
+{
+    let mut more = row_lines(alloc, styles.border, styles.cell, columns, row.cells())?;
+    lines.append(&mut more)?;
+    Ok(())
+}
+
+/// Adds a border line if dividers are shown and more rows come.
+fn push_divider<'a>(
+    alloc: Global,
+    lines: &mut Vec<Line<'a>>,
+    styles: Styles,
+    dividers: bool,
+    columns: &[Column],
+    rows: &[Row<'a>],
+) -> Result<(), AllocError>
+    requires { 0 < length columns.now }
+    ensures { OnOk result (lines.new.items ≡ lines.old.items ++ divider dividers (border_line styles.border Middle columns.now) rows.now) }
+{
+    if dividers && !rows.is_empty() {
+        lines.push(border_line(alloc, styles.border, Edge::Middle, columns)?)?;
     }
     Ok(())
 }

@@ -3,7 +3,6 @@ use std::alloc::{AllocError, Global};
 use std::test::Fail;
 use term_text::{Alignment, CowStr, Line, Span, Style};
 
-
 fn row<'a>(alloc: Global, cells: &[&'static str]) -> Result<Row<'a>, AllocError> {
     let mut row = Row::new(alloc);
     for text in cells {
@@ -15,7 +14,12 @@ fn row<'a>(alloc: Global, cells: &[&'static str]) -> Result<Row<'a>, AllocError>
 }
 
 /// The texts of the picture's lines, each with an LF behind it.
-fn shown(alloc: Global, table: &Table, width: Option<usize>, dividers: bool) -> Result<String, AllocError> {
+fn shown(
+    alloc: Global,
+    table: &Table,
+    width: Option<usize>,
+    dividers: bool,
+) -> Result<String, AllocError> {
     let styles = Styles {
         border: Style::new(),
         header: Style::new(),
@@ -43,7 +47,13 @@ fn cells_keep_to_their_sides(rt: HostRuntime) -> Result<(), Fail> {
     table.set_header(row(alloc, ["Name", "漢", "four"].as_slice())?);
     table.push_row(row(alloc, ["API", "b", "c", "d"].as_slice())?)?;
     table.push_row(row(alloc, ["x"].as_slice())?)?;
-    assert_eq!(rt; shown(alloc, &table, None, true)?.as_str(), "┌──────┬────┬──────┬───┐\n│ Name │ 漢 │ four │   │\n├──────┼────┼──────┼───┤\n│ API  │  b │  c   │ d │\n├──────┼────┼──────┼───┤\n│ x    │    │      │   │\n└──────┴────┴──────┴───┘\n");
-    assert_eq!(rt; shown(alloc, &table, Some(22), false)?.as_str(), "┌─────┬────┬─────┬───┐\n│ Nam │ 漢 │ fou │   │\n│ e   │    │  r  │   │\n├─────┼────┼─────┼───┤\n│ API │  b │  c  │ d │\n│ x   │    │     │   │\n└─────┴────┴─────┴───┘\n");
+    assert_eq!(rt;
+        shown(alloc, &table, None, true)?.as_str(),
+        "┌──────┬────┬──────┬───┐\n│ Name │ 漢 │ four │   │\n├──────┼────┼──────┼───┤\n│ API  │  b │  c   │ d │\n├──────┼────┼──────┼───┤\n│ x    │    │      │   │\n└──────┴────┴──────┴───┘\n"
+    );
+    assert_eq!(rt;
+        shown(alloc, &table, Some(22), false)?.as_str(),
+        "┌─────┬────┬─────┬───┐\n│ Nam │ 漢 │ fou │   │\n│ e   │    │  r  │   │\n├─────┼────┼─────┼───┤\n│ API │  b │  c  │ d │\n│ x   │    │     │   │\n└─────┴────┴─────┴───┘\n"
+    );
     Ok(())
 }

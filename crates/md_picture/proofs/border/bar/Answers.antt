@@ -1,7 +1,6 @@
-use Rattle.std.proofs.Common.{◌≡◌, ℕ, List, refl, false, ap, ◌∙◌}
+use Rattle.std.proofs.Common.{ℕ, List, ap, ◌∙◌}
 use Rattle.std.specs.Char.{encode_utf8}
-use Rattle.term_text.specs.Text.{SpanView}
-use Rattle.md_picture.specs.Picture.{bar, styled}
+use Rattle.md_picture.specs.Picture.{styled}
 use Rattle.md_picture.proofs.border.bar.Goals as goal
 
 pub returns : goal.returns

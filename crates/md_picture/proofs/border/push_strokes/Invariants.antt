@@ -1,6 +1,5 @@
-use Rattle.std.proofs.Common.{◌≡◌, ℕ, ◌+◌, ◌-◌, ◌<◌, ◌≤◌, List, [], ◌∷◌, ◌++◌, drop, take, length, map, max, replicate, string_bytes}
-use Rattle.md_picture.specs.Picture.{strokes, columns_of, height_of, row_parts, spans_width, body_lines, bar}
-use Rattle.md_picture.specs.Cells.{with_row, widest, narrowest, glyph}
+use Rattle.std.proofs.Common.{◌≡◌, ◌++◌, drop, string_bytes}
+use Rattle.md_picture.specs.Picture.{strokes}
 use Rattle.md_picture.proofs.border.push_strokes.Given as goal
 
 abbrev pub invariant-loop-column : goal.invariant-loop-column

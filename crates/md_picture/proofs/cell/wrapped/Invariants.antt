@@ -1,6 +1,5 @@
-use Rattle.std.proofs.Common.{◌≡◌, ℕ, ◌+◌, ◌-◌, ◌<◌, ◌≤◌, List, [], ◌∷◌, ◌++◌, drop, take, length, map, max, replicate, sum_by, string_bytes}
-use Rattle.md_picture.specs.Picture.{strokes, columns_of, height_of, row_parts, span_width, spans_width, body_lines, bar}
-use Rattle.md_picture.specs.Cells.{with_row, widest, narrowest, glyph}
+use Rattle.std.proofs.Common.{◌≡◌, ◌++◌, length, map}
+use Rattle.md_picture.specs.Cells.{glyph}
 use Rattle.term_text.specs.Graph.{graphs}
 use Rattle.term_text.specs.Rows.{rows_left}
 use Rattle.term_text.specs.Wrap.{wrap}

@@ -1,6 +1,4 @@
-use Rattle.std.proofs.Common.{◌≡◌, ℕ, ◌+◌, ◌-◌, ◌<◌, ◌≤◌, List, [], ◌∷◌, ◌++◌, drop, take, length, map, max, replicate, string_bytes}
-use Rattle.md_picture.specs.Picture.{strokes, columns_of, height_of, row_parts, spans_width, body_lines, bar}
-use Rattle.md_picture.specs.Cells.{with_row, widest, narrowest, glyph}
+use Rattle.std.proofs.Common.{◌≡◌, ◌++◌, drop, map}
 use Rattle.md_columns.specs.declared.bounds.Bounds.{Bounds}
 use Rattle.md_picture.proofs.columns.widths_of.Given as goal
 

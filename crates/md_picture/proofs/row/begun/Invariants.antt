@@ -1,7 +1,6 @@
-use Rattle.std.proofs.Common.{◌≡◌, ℕ, ◌+◌, ◌-◌, ◌<◌, ◌≤◌, List, [], ◌∷◌, ◌++◌, drop, take, length, map, max, replicate, sum_by, string_bytes}
-use Rattle.md_picture.specs.Picture.{strokes, columns_of, height_of, row_parts, span_width, spans_width, body_lines, bar}
-use Rattle.md_picture.specs.Cells.{with_row, widest, narrowest, glyph}
+use Rattle.std.proofs.Common.{◌≡◌, [], ◌∷◌, replicate}
 use Rattle.term_text.specs.Style.{no_style}
+use Rattle.md_picture.specs.Picture.{bar}
 use Rattle.md_picture.proofs.row.begun.Given as goal
 
 abbrev pub invariant-loop-i : goal.invariant-loop-i

@@ -1,4 +1,4 @@
-use Rattle.std.proofs.Common.{◌≤◌, drop, arith}
+use Rattle.std.proofs.Common.{drop, arith}
 use Rattle.std.proofs.Math.ListN.{drop_of_length-le}
 use Rattle.md_picture.proofs.Heights.{height-begins, height-ends}
 use Rattle.md_picture.proofs.row.height_of.Goals as goal

@@ -1,6 +1,5 @@
-use Rattle.std.proofs.Common.{◌≡◌, ℕ, ◌+◌, ◌-◌, ◌<◌, ◌≤◌, List, [], ◌∷◌, ◌++◌, drop, take, length, map, max, replicate, string_bytes}
-use Rattle.md_picture.specs.Picture.{strokes, columns_of, height_of, row_parts, spans_width, body_lines, bar}
-use Rattle.md_picture.specs.Cells.{with_row, widest, narrowest, glyph}
+use Rattle.std.proofs.Common.{◌≡◌, ◌≤◌, drop, max}
+use Rattle.md_picture.specs.Picture.{height_of}
 use Rattle.md_picture.proofs.row.height_of.Given as goal
 
 abbrev pub invariant-loop-rows : goal.invariant-loop-rows
