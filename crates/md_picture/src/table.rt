@@ -1,6 +1,7 @@
 // Tables and their pictures.
 ghost use Rattle.std.specs.Prelude.{◌≡◌, ◌<◌, ◌++◌, ◌∷◌, [], IfOk, OnOk, OnErr, length};
 ghost use Rattle.md_picture.specs.declared.border.Edge.TheVariants.{Middle};
+ghost use Rattle.md_picture.specs.Cells.{empty_cell};
 ghost use Rattle.md_picture.specs.Fits.{RowFits, RowsFit};
 ghost use Rattle.md_picture.specs.Picture.{TableView, body_lines, border_line, divider, lines_of, picture, row_lines, table_columns};
 
@@ -37,12 +38,15 @@ impl<'a> Row<'a> {
         }
     }
 
-    /// Adds a cell at the end. After want of memory the row is as before.
-    pub fn push(&mut self, cell: Line<'a>) -> Result<(), AllocError>
-        ensures ok { OnOk result (self.new ≡ self.old ++ cell.entry ∷ []) }
+    /// Moves a cell to the end, and it is empty then. After want of memory both are as before.
+    pub fn append(&mut self, alloc: Global, cell: &mut Line<'a>) -> Result<(), AllocError>
+        ensures ok { OnOk result (self.new ≡ self.old ++ cell.old ∷ []) }
+        ensures emptied { OnOk result (cell.new ≡ empty_cell) }
         ensures err { OnErr result (self.new ≡ self.old) }
+        ensures kept { OnErr result (cell.new ≡ cell.old) }
     {
-        self.cells.push(cell)?;
+        self.cells.reserve(1)?;
+        self.cells.push_reserved(std::mem::replace(cell, Line::new(alloc)));
         Ok(())
     }
 
@@ -89,12 +93,15 @@ impl<'a> Table<'a> {
         let _ = std::mem::replace(&mut self.header, header);
     }
 
-    /// Adds a row at the end. After want of memory the table is as before.
-    pub fn push_row(&mut self, row: Row<'a>) -> Result<(), AllocError>
-        ensures ok { OnOk result (self.new ≡ record self.old { rows = self.old.rows ++ row.entry ∷ [] }) }
+    /// Moves a row to the end, and it is empty then. After want of memory both are as before.
+    pub fn append(&mut self, alloc: Global, row: &mut Row<'a>) -> Result<(), AllocError>
+        ensures ok { OnOk result (self.new ≡ record self.old { rows = self.old.rows ++ row.old ∷ [] }) }
+        ensures emptied { OnOk result (row.new ≡ []) }
         ensures err { OnErr result (self.new ≡ self.old) }
+        ensures kept { OnErr result (row.new ≡ row.old) }
     {
-        self.rows.push(row)?;
+        self.rows.reserve(1)?;
+        self.rows.push_reserved(std::mem::replace(row, Row::new(alloc)));
         Ok(())
     }
 
