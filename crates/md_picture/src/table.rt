@@ -46,7 +46,8 @@ impl<'a> Row<'a> {
         ensures kept { OnErr result (cell.new ≡ cell.old) }
     {
         self.cells.reserve(1)?;
-        self.cells.push_reserved(std::mem::replace(cell, Line::new(alloc)));
+        self.cells
+            .push_reserved(std::mem::replace(cell, Line::new(alloc)));
         Ok(())
     }
 
@@ -101,7 +102,8 @@ impl<'a> Table<'a> {
         ensures kept { OnErr result (row.new ≡ row.old) }
     {
         self.rows.reserve(1)?;
-        self.rows.push_reserved(std::mem::replace(row, Row::new(alloc)));
+        self.rows
+            .push_reserved(std::mem::replace(row, Row::new(alloc)));
         Ok(())
     }
 

@@ -67,9 +67,10 @@ impl<'a> TableBuilder<'a> {
     /// A table with these alignments, without cells. It takes no memory.
     pub fn new(alloc: Global, alignments: Vec<Alignment>) -> TableBuilder<'a>
         ensures { result ≡ record {
-            table = record { alignments = alignments.items; header = []; rows = [] };
-            row = [];
-            cell = empty_cell } }
+          table = record { alignments = alignments.items; header = []; rows = [] };
+          row = [];
+          cell = empty_cell;
+        } }
     {
         TableBuilder {
             alloc,
@@ -122,7 +123,12 @@ impl<'a> TableBuilder<'a> {
     /// The lines of the table's picture, in a width of so many columns of cells if one is set.
     ///
     /// Each column has at least one column of cells, and its widest grapheme, even if the width is set to less.
-    pub fn render<S: StyleSheet>(self, styles: &S, width: Option<usize>, row_dividers: RowDividers) -> Result<Vec<Line<'a>>, AllocError>
+    pub fn render<S: StyleSheet>(
+        self,
+        styles: &S,
+        width: Option<usize>,
+        row_dividers: RowDividers,
+    ) -> Result<Vec<Line<'a>>, AllocError>
         ensures { IfOk result (λ lines. lines.items
             ≡ picture (table_styles (S.sheet styles.now)) width (are_shown row_dividers) self.entry.table) }
     {
@@ -131,6 +137,7 @@ impl<'a> TableBuilder<'a> {
             header: styles.table_header(),
             cell: styles.table_cell(),
         };
-        self.table.picture(self.alloc, styles, width, row_dividers.are_shown())
+        self.table
+            .picture(self.alloc, styles, width, row_dividers.are_shown())
     }
 }
