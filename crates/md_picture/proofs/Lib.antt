@@ -4,3 +4,5 @@ pub mod Widening
 pub mod Borders
 pub mod Parts
 pub mod Fitting
+pub mod Spans
+pub mod Lines

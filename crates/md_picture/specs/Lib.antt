@@ -1,3 +1,4 @@
 pub mod Cells
 pub mod Picture
 pub mod Fits
+pub mod Widths

@@ -4,6 +4,7 @@
 mod border;
 mod cell;
 mod columns;
+pub mod laws;
 mod row;
 mod styles;
 mod table;
