@@ -5,4 +5,6 @@ pub mod Borders
 pub mod Parts
 pub mod Fitting
 pub mod Spans
+pub mod Glyphs
 pub mod Lines
+pub mod Keeping

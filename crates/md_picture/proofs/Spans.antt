@@ -1,5 +1,5 @@
 -- The columns that spans take.
-use Rattle.std.proofs.Common.{◌≡◌, ℕ, zero, suc, ◌+◌, ◌-◌, ◌*◌, ◌/◌, ◌<◌, ◌≤◌, Bool, true, false, cond, nat_eq, nat_le, ◌&&◌, List, [], ◌∷◌, ◌++◌, length, map, replicate, refl, sym, ap, ap₂, subst, ◌∙◌, arith, append-nil, length-append}
+use Rattle.std.proofs.Common.{◌≡◌, ℕ, zero, suc, ◌+◌, ◌-◌, ◌≤◌, Bool, true, false, cond, nat_eq, ◌&&◌, List, [], ◌∷◌, ◌++◌, length, map, replicate, refl, sym, ap, ap₂, subst, ◌∙◌, arith, length-append}
 use Rattle.std.proofs.lemmas.Bool.{and_parts}
 use Rattle.std.proofs.lemmas.Bool.Decides.{nat_tests}
 use Rattle.std.proofs.lemmas.List.{nil_from_length, length-replicate}
@@ -7,12 +7,11 @@ use Rattle.std.proofs.lemmas.List.Sums.{sum_by-cons, sum_by-append}
 use Rattle.std.proofs.lemmas.Str.{chars-nil, chars-encodes, encodes-append}
 use Rattle.std.specs.List.{list_all}
 use Rattle.std.specs.Prelude.{codes, encode_utf8_all}
-use Rattle.std.specs.Char.{encode_utf8}
 use Rattle.std.specs.Str.{all_scalars, chars}
 use Rattle.unicode_width.specs.Width.{str_width}
-use Rattle.term_text.specs.Graph.{Grapheme, columns, graphs, visible, is_visible, width_of, grapheme_of, pieces_of, span_graphs, spans_graphs}
+use Rattle.term_text.specs.Graph.{Grapheme, columns, visible, is_visible, width_of, grapheme_of, pieces_of, span_graphs, spans_graphs}
 use Rattle.term_text.specs.Lists.{joined}
-use Rattle.term_text.specs.Plain.{is_plain, is_printable, IsPlain, IsPrintable}
+use Rattle.term_text.specs.Plain.{plain_grapheme, is_plain, IsPlain, IsPrintable}
 use Rattle.term_text.specs.Style.{patch}
 use Rattle.term_text.specs.Text.{SpanView, LineView}
 use Rattle.term_text.specs.declared.alignment.Alignment.{Alignment}
@@ -185,15 +184,15 @@ unfolding strokes
 spelt-strokes edge [] = record { cs = []; spell = refl; many = refl; plain = (refl, refl) }
 spelt-strokes edge (column ∷ columns) =
     let whole = spelt-append (cross_of edge) _ 1 (column.width + 2 + bordered columns) (spelt-cross edge)
-        (spelt-append (stroke column) (strokes edge columns) (column.width + 2) (bordered columns) (spelt-stroke column) (spelt-strokes edge columns)) in
+    (spelt-append (stroke column) (strokes edge columns) (column.width + 2) (bordered columns) (spelt-stroke column) (spelt-strokes edge columns)) in
     let e : 1 + (column.width + 2 + bordered columns) ≡ column.width + 3 + bordered columns = omega arith in
     subst (λ n. Spelt (cross_of edge ++ (stroke column ++ strokes edge columns)) n) e whole
 
 spelt-border : (edge : Edge) (column : Column) (columns : List Column) → Spelt (border_text edge (column ∷ columns)) (bordered (column ∷ columns) + 1)
 spelt-border edge column columns =
     let whole = spelt-append (left_of edge) _ 1 (column.width + 2 + (bordered columns + 1)) (spelt-left edge)
-        (spelt-append (stroke column) _ (column.width + 2) (bordered columns + 1) (spelt-stroke column)
-            (spelt-append (strokes edge columns) (right_of edge) (bordered columns) 1 (spelt-strokes edge columns) (spelt-right edge))) in
+    (spelt-append (stroke column) _ (column.width + 2) (bordered columns + 1) (spelt-stroke column)
+    (spelt-append (strokes edge columns) (right_of edge) (bordered columns) 1 (spelt-strokes edge columns) (spelt-right edge))) in
     let e : 1 + (column.width + 2 + (bordered columns + 1)) ≡ column.width + 3 + bordered columns + 1 = omega arith in
     subst (λ n. Spelt (border_text edge (column ∷ columns)) n) e whole
 
@@ -202,8 +201,13 @@ width-border_line style edge column columns =
     let line = border_line style edge (column ∷ columns) in
     let text = spelt-border edge column columns in
     let span = styled (border_text edge (column ∷ columns)) style in
-    omega (arith, columns-spans line.style line.spans, spans_width-cons span [],
-        span_width-plain style text.cs (border_text edge (column ∷ columns)) text.spell text.plain, text.many)
+    omega (
+      arith,
+      columns-spans line.style line.spans,
+      spans_width-cons span [],
+      span_width-plain style text.cs (border_text edge (column ∷ columns)) text.spell text.plain,
+      text.many,
+    )
 
 -- ---- a cell's part of a line
 
@@ -212,13 +216,13 @@ hidden-nothing : is_visible [] ≡ false
 unfolding chars str_width
 hidden-nothing = refl
 
-span_width-nothing : (span : SpanView) → span.text ≡ [] → span_width span ≡ 0
+pub visible-nothing : (style : Style) (span : SpanView) → span.text ≡ [] → visible style (pieces_of span) ≡ []
 unfolding visible
-span_width-nothing span e = ap (λ (t : List ℕ). span_width (record span { text = t })) e ∙ go span.is_glyph
+visible-nothing style span e = ap (λ (t : List ℕ). visible style (pieces_of (record span { text = t }))) e ∙ go span.is_glyph
   where
-    go : (b : Bool) → span_width (record { text = []; style = span.style; is_glyph = b }) ≡ 0
-    go true = ap (λ v. columns (cond v (grapheme_of span.style [] ∷ []) [])) hidden-nothing
-    go false = ap columns (visible-plain span.style [] (ap (list_all is_plain) chars-nil)) ∙ columns-plain span.style (chars []) ∙ ap length chars-nil
+    go : (b : Bool) → visible style (pieces_of (record { text = []; style = span.style; is_glyph = b })) ≡ []
+    go true = ap (λ v. cond v (grapheme_of style [] ∷ []) []) hidden-nothing
+    go false = visible-plain style [] (ap (list_all is_plain) chars-nil) ∙ ap (map (plain_grapheme style)) chars-nil
 
 spans_width-cell_spans : (style : Style) (spans : List SpanView) → spans_width (cell_spans style spans) ≡ spans_width spans
 unfolding cell_spans
@@ -228,7 +232,7 @@ spans_width-cell_spans style (span ∷ spans) = go (nat_eq (length span.text) 0)
     go : (b : Bool) → nat_eq (length span.text) 0 ≡ b → spans_width (cell_spans style spans) ≡ spans_width spans → spans_width (cond b (cell_spans style spans) (patched style span ∷ cell_spans style spans)) ≡ span_width span + spans_width spans
     go true e k =
         let none : length span.text ≡ 0 = grind (arith, nat_tests, e) in
-        omega (arith, k, span_width-nothing span (nil_from_length span.text none))
+        omega (arith, k, ap columns (visible-nothing span.style span (nil_from_length span.text none)))
     go false e k =
         omega (arith, spans_width-cons (patched style span) (cell_spans style spans), columns-visible (patch span.style style) span.style (pieces_of span), k)
 
@@ -243,11 +247,19 @@ spans_width-part border style column spans fits =
     let room = room_of column spans in
     let left = left_room column.alignment room in
     let ends = pad (room - left) style ∷ bar border ∷ [] in
-    omega (arith, fits, left-within column.alignment room,
-        spans_width-cons (pad left style) (cell_spans style spans ++ ends), span_width-pad left style,
-        spans_width-append (cell_spans style spans) ends, spans_width-cell_spans style spans,
-        spans_width-cons (pad (room - left) style) (bar border ∷ []), span_width-pad (room - left) style,
-        spans_width-cons (bar border) [], span_width-bar border)
+    omega (
+      arith,
+      fits,
+      left-within column.alignment room,
+      spans_width-cons (pad left style) (cell_spans style spans ++ ends),
+      span_width-pad left style,
+      spans_width-append (cell_spans style spans) ends,
+      spans_width-cell_spans style spans,
+      spans_width-cons (pad (room - left) style) (bar border ∷ []),
+      span_width-pad (room - left) style,
+      spans_width-cons (bar border) [],
+      span_width-bar border,
+    )
 
 pub width-lengthened : (line : LineView) (spans : List SpanView) → cell_width (lengthened line spans) ≡ cell_width line + spans_width spans
 width-lengthened line spans =

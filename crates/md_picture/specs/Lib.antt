@@ -2,3 +2,4 @@ pub mod Cells
 pub mod Picture
 pub mod Fits
 pub mod Widths
+pub mod Kept
