@@ -1,5 +1,7 @@
 -- A table as it is built.
-use Rattle.std.specs.Prelude.{ℕ, Bool, true, false, if◌then◌else◌, ◌==◌, List, [], ◌∷◌, ◌++◌, length}
+use Rattle.std.specs.List.{All}
+use Rattle.std.specs.Prelude.{◌≡◌, Bool, true, false, if◌then◌else◌, ◌==◌, List, [], ◌∷◌, ◌++◌, length}
+use Rattle.term_text.specs.Style.{no_style}
 use Rattle.term_text.specs.Text.{SpanView, LineView}
 use Rattle.md_picture.specs.Picture.{TableView}
 use Rattle.md_picture.specs.declared.styles.Styles.{Styles}
@@ -12,6 +14,17 @@ pub record BuilderView : Type 0 where
   pub table : TableView
   pub row : List LineView
   pub cell : LineView
+
+-- no style lies under the spans of these cells
+abbrev pub AllUnstyled : List LineView → Type 0
+AllUnstyled cells = All (λ cell. cell.style ≡ no_style) cells
+
+-- nor under those of any cell of a table that is built
+pub record Unstyled (table : TableView) (row : List LineView) (cell : LineView) : Type 0 where
+  pub in_header : AllUnstyled table.header
+  pub in_rows : All (λ cells. AllUnstyled cells) table.rows
+  pub in_row : AllUnstyled row
+  pub in_cell : cell.style ≡ no_style
 
 -- an empty span adds nothing
 abbrev pub with_span : LineView → SpanView → LineView

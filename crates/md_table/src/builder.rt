@@ -1,8 +1,9 @@
 // Tables that are built cell by cell.
 ghost use Rattle.std.specs.Prelude.{◌≡◌, ◌++◌, ◌∷◌, [], IfOk, OnOk, OnErr};
+ghost use Rattle.std.specs.List.{All};
 ghost use Rattle.md_picture.specs.Cells.{empty_cell};
 ghost use Rattle.md_picture.specs.Picture.{picture};
-ghost use Rattle.md_table.specs.Builder.{are_shown, table_styles, with_span};
+ghost use Rattle.md_table.specs.Builder.{AllUnstyled, are_shown, table_styles, with_span};
 
 use crate::sheet::StyleSheet;
 use md_picture::{Row, Styles, Table};
@@ -56,11 +57,13 @@ pub struct TableBuilder<'a> {
 }
 
 impl<'a> Model for TableBuilder<'a> {
-    ghost use Rattle.md_table.specs.Builder.{BuilderView};
+    ghost use Rattle.md_table.specs.Builder.{BuilderView, Unstyled};
 
     ghost Value = { BuilderView };
 
     ghost view = { λ builder. record { table = builder.table; row = builder.row; cell = builder.cell } };
+
+    ghost invariant = { λ builder. Unstyled builder.table builder.row builder.cell };
 }
 
 impl<'a> TableBuilder<'a> {
@@ -129,8 +132,10 @@ impl<'a> TableBuilder<'a> {
         width: Option<usize>,
         row_dividers: RowDividers,
     ) -> Result<Vec<Line<'a>>, AllocError>
-        ensures { IfOk result (λ lines. lines.items
+        ensures lines { IfOk result (λ lines. lines.items
             ≡ picture (table_styles (S.sheet styles.now)) width (are_shown row_dividers) self.entry.table) }
+        ensures header_unstyled { AllUnstyled self.entry.table.header }
+        ensures rows_unstyled { All (λ cells. AllUnstyled cells) self.entry.table.rows }
     {
         let styles = Styles {
             border: styles.table_border(),
