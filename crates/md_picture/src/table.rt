@@ -39,13 +39,14 @@ impl<'a> Row<'a> {
     }
 
     /// Moves a cell to the end, and it is empty then. After want of memory both are as before.
-    pub fn append(&mut self, alloc: Global, cell: &mut Line<'a>) -> Result<(), AllocError>
+    pub fn append(&mut self, cell: &mut Line<'a>) -> Result<(), AllocError>
         ensures ok { OnOk result (self.new ≡ self.old ++ cell.old ∷ []) }
         ensures emptied { OnOk result (cell.new ≡ empty_cell) }
         ensures err { OnErr result (self.new ≡ self.old) }
         ensures kept { OnErr result (cell.new ≡ cell.old) }
     {
         self.cells.reserve(1)?;
+        let alloc = *self.cells.allocator();
         self.cells
             .push_reserved(std::mem::replace(cell, Line::new(alloc)));
         Ok(())
@@ -95,13 +96,14 @@ impl<'a> Table<'a> {
     }
 
     /// Moves a row to the end, and it is empty then. After want of memory both are as before.
-    pub fn append(&mut self, alloc: Global, row: &mut Row<'a>) -> Result<(), AllocError>
+    pub fn append(&mut self, row: &mut Row<'a>) -> Result<(), AllocError>
         ensures ok { OnOk result (self.new ≡ record self.old { rows = self.old.rows ++ row.old ∷ [] }) }
         ensures emptied { OnOk result (row.new ≡ []) }
         ensures err { OnErr result (self.new ≡ self.old) }
         ensures kept { OnErr result (row.new ≡ row.old) }
     {
         self.rows.reserve(1)?;
+        let alloc = *self.rows.allocator();
         self.rows
             .push_reserved(std::mem::replace(row, Row::new(alloc)));
         Ok(())

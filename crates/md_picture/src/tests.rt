@@ -8,7 +8,7 @@ fn row<'a>(alloc: Global, cells: &[&'static str]) -> Result<Row<'a>, AllocError>
     for text in cells {
         let mut cell = Line::new(alloc);
         cell.push_span(Span::raw(CowStr::borrowed(text)))?;
-        row.append(alloc, &mut cell)?;
+        row.append(&mut cell)?;
     }
     Ok(row)
 }
@@ -45,8 +45,8 @@ fn cells_keep_to_their_sides(rt: HostRuntime) -> Result<(), Fail> {
     alignments.push(Alignment::Center)?;
     let mut table = Table::new(alloc, alignments);
     table.set_header(row(alloc, ["Name", "漢", "four"].as_slice())?);
-    table.append(alloc, &mut row(alloc, ["API", "b", "c", "d"].as_slice())?)?;
-    table.append(alloc, &mut row(alloc, ["x"].as_slice())?)?;
+    table.append(&mut row(alloc, ["API", "b", "c", "d"].as_slice())?)?;
+    table.append(&mut row(alloc, ["x"].as_slice())?)?;
     assert_eq!(rt;
         shown(alloc, &table, None, true)?.as_str(),
         "┌──────┬────┬──────┬───┐\n│ Name │ 漢 │ four │   │\n├──────┼────┼──────┼───┤\n│ API  │  b │  c   │ d │\n├──────┼────┼──────┼───┤\n│ x    │    │      │   │\n└──────┴────┴──────┴───┘\n"

@@ -103,7 +103,7 @@ impl<'a> TableBuilder<'a> {
         ensures ok { OnOk result (self.new ≡ record self.old { row = self.old.row ++ self.old.cell ∷ []; cell = empty_cell }) }
         ensures err { OnErr result (self.new ≡ self.old) }
     {
-        self.row.append(self.alloc, &mut self.cell)
+        self.row.append(&mut self.cell)
     }
 
     /// Makes the current row the header in place of an earlier one, and the current row is empty then.
@@ -120,7 +120,7 @@ impl<'a> TableBuilder<'a> {
             ≡ record self.old { table = record self.old.table { rows = self.old.table.rows ++ self.old.row ∷ [] }; row = [] }) }
         ensures err { OnErr result (self.new ≡ self.old) }
     {
-        self.table.append(self.alloc, &mut self.row)
+        self.table.append(&mut self.row)
     }
 
     /// The lines of the table's picture, in a width of so many columns of cells if one is set.
