@@ -3,3 +3,4 @@ pub mod Sheet
 pub mod Defaults
 pub mod Answers
 pub mod Custom
+pub mod Builder

@@ -1,12 +1,13 @@
-//! The defaults as a table, and a sheet with two answers changed.
-use crate::{AlertKind, CustomSheet, DefaultStyleSheet, StyleSheet};
+//! The defaults as a table, a sheet with two answers changed, and tables with their pictures.
+use crate::{AlertKind, CustomSheet, DefaultStyleSheet, RowDividers, StyleSheet, TableBuilder};
+use std::alloc::{AllocError, Global};
 use std::collections::HashMap;
 use std::test::Fail;
 use term_text::Color::{
     Black, Blue, Cyan, DarkGray, Green, LightBlue, LightCyan, LightYellow, Magenta, Red, White,
     Yellow,
 };
-use term_text::{Modifier, Style};
+use term_text::{Alignment, CowStr, Line, Modifier, Span, Style};
 
 const KINDS: [AlertKind; 5] = [
     AlertKind::Note,
@@ -126,6 +127,131 @@ fn equal_kinds_hash_equally(rt: HostRuntime) -> Result<(), Fail> {
     }
     for (place, kind) in KINDS.iter().enumerate() {
         assert_eq!(rt; places.get(kind), Some(&place), "{}", kind.label());
+    }
+    Ok(())
+}
+
+/// A builder with these alignments and rows of texts, the header first.
+fn built<'a>(
+    alloc: Global,
+    alignments: &[Alignment],
+    rows: &[&[&'static str]],
+) -> Result<TableBuilder<'a>, AllocError> {
+    let mut builder = TableBuilder::new(alloc, Vec::from_slice(alloc, alignments)?);
+    for (place, cells) in rows.iter().enumerate() {
+        for text in *cells {
+            builder.start_cell();
+            builder.push_span(Span::raw(CowStr::borrowed(text)))?;
+            builder.finish_cell()?;
+        }
+        if place == 0 {
+            builder.finish_header();
+        } else {
+            builder.finish_row()?;
+        }
+    }
+    Ok(builder)
+}
+
+/// The texts of lines, each with an LF behind it.
+fn shown(alloc: Global, lines: &[Line]) -> Result<String, AllocError> {
+    let mut shown = String::new(alloc);
+    for line in lines {
+        for span in line.spans() {
+            shown.push_str(span.text())?;
+        }
+        shown.push_str("\n")?;
+    }
+    Ok(shown)
+}
+
+#[test]
+fn narrow_columns_grow_first(rt: HostRuntime) -> Result<(), Fail> {
+    let alloc = rt.alloc();
+    // three columns leave their cells ten columns less than the width
+    let cases = [
+        (24, "┌───────┬──────┬───────┐"),
+        (25, "┌────────┬──────┬───────┐"),
+        (15, "┌───┬──────┬───┐"),
+        (34, "┌────────────┬──────┬────────────┐"),
+    ];
+    for (width, top) in cases {
+        let mut builder = TableBuilder::new(alloc, Vec::new(alloc));
+        builder.push_span(Span::raw(CowStr::borrowed("ten digits")))?;
+        builder.finish_cell()?;
+        builder.push_span(Span::glyph(CowStr::borrowed("wide"), Style::new()))?;
+        builder.finish_cell()?;
+        builder.push_span(Span::raw(CowStr::borrowed("and others")))?;
+        builder.finish_cell()?;
+        builder.finish_header();
+        let lines = builder.render(&DefaultStyleSheet, Some(width), RowDividers::Hidden)?;
+        let picture = shown(alloc, lines.as_slice())?;
+        assert_eq!(rt; picture.as_str().lines().next(), Some(top));
+    }
+    Ok(())
+}
+
+#[test]
+fn rows_have_all_columns(rt: HostRuntime) -> Result<(), Fail> {
+    let alloc = rt.alloc();
+    let sides = [Alignment::Left, Alignment::Right, Alignment::Center];
+    let none: &[&'static str] = [].as_slice();
+    let rows = [
+        ["Name", "x", "wide"].as_slice(),
+        none,
+        ["y", "zoo", "c", "d"].as_slice(),
+    ];
+    let open = built(alloc, sides.as_slice(), rows.as_slice())?.render(
+        &DefaultStyleSheet,
+        None,
+        RowDividers::from(false),
+    )?;
+    assert_eq!(rt;
+        shown(alloc, open.as_slice())?.as_str(),
+        "┌──────┬─────┬──────┬───┐\n│ Name │   x │ wide │   │\n├──────┼─────┼──────┼───┤\n│      │     │      │   │\n│ y    │ zoo │  c   │ d │\n└──────┴─────┴──────┴───┘\n"
+    );
+    let divided = built(alloc, sides.as_slice(), rows.as_slice())?.render(
+        &DefaultStyleSheet,
+        None,
+        RowDividers::from(true),
+    )?;
+    assert_eq!(rt; divided.len(), 7);
+    let mut unfinished = TableBuilder::new(alloc, Vec::new(alloc));
+    unfinished.push_span(Span::raw(CowStr::borrowed("lost")))?;
+    assert_eq!(rt;
+        unfinished
+            .render(&DefaultStyleSheet, None, RowDividers::Shown)?
+            .len(),
+        0
+    );
+    Ok(())
+}
+
+#[test]
+fn pads_have_the_cells_style(rt: HostRuntime) -> Result<(), Fail> {
+    let alloc = rt.alloc();
+    let border = Style::new().fg(DarkGray);
+    let header = Style::new().fg(Cyan);
+    let sheet = CustomSheet::default()
+        .with_table_border(border)
+        .with_table_header(header);
+    let mut builder = TableBuilder::new(alloc, Vec::new(alloc));
+    builder.push_span(Span::styled(CowStr::borrowed("a"), Style::new().bold()))?;
+    builder.push_span(Span::raw(CowStr::borrowed("")))?;
+    builder.finish_cell()?;
+    builder.finish_header();
+    let lines = builder.render(&sheet, None, RowDividers::Hidden)?;
+    let spans = lines.get(1).ok_or("none")?.spans();
+    let want = [
+        ("│", border),
+        (" ", header),
+        ("a", header.bold()),
+        (" ", header),
+        ("│", border),
+    ];
+    assert_eq!(rt; spans.len(), 5);
+    for (span, (text, style)) in spans.iter().zip(want.iter()) {
+        assert_eq!(rt; (span.text(), span.style()), (*text, *style));
     }
     Ok(())
 }

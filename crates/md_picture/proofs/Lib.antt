@@ -1,0 +1,10 @@
+pub mod Strokes
+pub mod Heights
+pub mod Widening
+pub mod Borders
+pub mod Parts
+pub mod Fitting
+pub mod Spans
+pub mod Glyphs
+pub mod Lines
+pub mod Keeping

@@ -1,0 +1,5 @@
+pub mod Cells
+pub mod Picture
+pub mod Fits
+pub mod Widths
+pub mod Kept

@@ -1,0 +1,30 @@
+//! Laws of pictures.
+ghost use Rattle.std.specs.Prelude.{◌≡◌, ℕ, Bool, Option, ◌∷◌};
+ghost use Rattle.term_text.specs.Graph.{graphs};
+ghost use Rattle.term_text.specs.Style.{no_style};
+ghost use Rattle.term_text.specs.Text.{LineView};
+ghost use Rattle.term_text.specs.Wrap.{NoneWider, Thinned};
+ghost use Rattle.term_text.specs.declared.style.Style.{Style};
+ghost use Rattle.md_picture.specs.declared.styles.Styles.{Styles};
+ghost use Rattle.md_picture.specs.Fits.{RowsFit};
+ghost use Rattle.md_picture.specs.Kept.{parts_graphs, restyled};
+ghost use Rattle.md_picture.specs.Picture.{TableView, picture, table_columns};
+ghost use Rattle.md_picture.specs.Widths.{AllAsWide, picture_width};
+
+/// All lines of a picture are as wide as its columns, a blank at either side of each, and the borders.
+pub fn lines_are_equally_wide()
+    ensures { (styles : Styles) (width : Option ℕ) (dividers : Bool) (table : TableView)
+        → AllAsWide (picture_width (table_columns width table)) (picture styles width dividers table) }
+{}
+
+/// No grapheme of a table's cell is wider than its column.
+pub fn cells_fit_their_columns()
+    ensures { (width : Option ℕ) (table : TableView) → RowsFit (table_columns width table) (table.header ∷ table.rows) }
+{}
+
+/// The parts of a cell in the lines of a picture, joined, are its visible graphemes without some blanks, each in its
+/// style patched by the style of cells.
+pub fn parts_are_the_graphemes_without_blanks()
+    ensures { (style : Style) (width : ℕ) (cell : LineView) → cell.style ≡ no_style → NoneWider width (graphs cell)
+        → Thinned (restyled style (graphs cell)) (parts_graphs style width cell) }
+{}
