@@ -1,6 +1,7 @@
 use crate::tests::drawn;
 use crate::{
-    AlertKind, AnsiFence, CustomSheet, NoHighlight, Options, from_str, from_str_with_options,
+    AlertKind, AnsiFence, CustomSheet, Highlighter, NoHighlight, Options, from_str,
+    from_str_with_options,
 };
 use md_events::built;
 use std::test::Fail;
@@ -129,5 +130,13 @@ fn a_sheet_without_marks_shows_what_they_mark(rt: HostRuntime) -> Result<(), Fai
         let drawn = drawn(rt.alloc(), &text)?;
         assert_eq!(rt; drawn.as_str(), want, "{input:?}");
     }
+    Ok(())
+}
+
+#[test]
+fn no_highlighter_knows_a_language_and_lines_stay(rt: HostRuntime) -> Result<(), Fail> {
+    assert!(rt; !NoHighlight.recognises("x"));
+    let line = NoHighlight.line(rt.alloc(), "x", "y")?;
+    assert_eq!(rt; line.as_str(), "y");
     Ok(())
 }
