@@ -6,18 +6,21 @@ use Rattle.md_inline.specs.Inlines.{inlines}
 use Rattle.md_rules.specs.Quotes.{quotes}
 use Rattle.md_rules.specs.Items.{item_interrupts}
 use Rattle.md_rules.specs.Lists.{begins_leaf}
+use Rattle.md_rules.specs.Tables.{starts_table}
 use Rattle.md_events.specs.Node.{Block, Run, node_then, or_else}
 use Rattle.md_events.specs.LeafBlocks.{leaf_block}
 use Rattle.md_events.specs.Containers.{container}
+use Rattle.md_events.specs.Tables.{table_block}
 
--- a line at which a paragraph ends, since another block begins there
-abbrev pub interrupts : Bool → LineText → Bool
-interrupts nests line = begins_leaf line || (nests && (quotes line || item_interrupts line))
+-- a line at which a paragraph ends, since another block begins there; whether a table does is told by the next line too
+abbrev pub interrupts : Bool → LineText → List LineText → Bool
+interrupts nests line later =
+    begins_leaf line || (nests && (quotes line || item_interrupts line)) || starts_table line later
 
 -- how many lines go on with a paragraph: each further nonempty line at which no other block begins
 unfoldable pub paragraph_more : Bool → List LineText → ℕ
 paragraph_more nests [] = 0
-paragraph_more nests (line ∷ lines) = if is_empty line || interrupts nests line then 0 else suc (paragraph_more nests lines)
+paragraph_more nests (line ∷ lines) = if is_empty line || interrupts nests line lines then 0 else suc (paragraph_more nests lines)
 
 -- a paragraph takes this line and those that go on with it; its source is the bodies of its lines
 abbrev pub paragraph : Bool → LineText → List LineText → Block
@@ -27,7 +30,9 @@ paragraph nests line later =
 -- the block at a nonempty line, which later lines follow, by the first rule that holds
 abbrev pub block : Bool → (Bool → List LineText → Nodes) → LineText → List LineText → Block
 block nests read line later =
-    or_else (leaf_block line later) (or_else (container nests read line later) (paragraph nests line later))
+    or_else (leaf_block line later)
+    (or_else (container nests read line later)
+    (or_else (table_block nests line later) (paragraph nests line later)))
 
 -- the blocks of lines after the first so many; empty lines between blocks are passed over
 unfoldable pub blocks_after : Bool → (Bool → List LineText → Nodes) → Bool → ℕ → List LineText → Nodes

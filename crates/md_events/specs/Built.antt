@@ -5,9 +5,9 @@ use Rattle.md_lines.specs.Lines.{LineText, lines_of}
 use Rattle.md_rules.specs.Quotes.{is_same}
 use Rattle.md_rules.specs.Texts.{begins_with, trimmed}
 
--- `$`, `<` or `|`
+-- `$` or `<`
 abbrev pub is_unbuilt : ℕ → Bool
-is_unbuilt b = b == 36 || b == 60 || b == 124
+is_unbuilt b = b == 36 || b == 60
 
 -- these two bytes stand somewhere, one behind the other
 abbrev pub has_pair : ℕ → ℕ → List ℕ → Bool

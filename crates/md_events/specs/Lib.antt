@@ -19,10 +19,12 @@ pub use Rattle.md_rules.specs.Rules
 pub use Rattle.md_rules.specs.Quotes
 pub use Rattle.md_rules.specs.Items
 pub use Rattle.md_rules.specs.Lists
+pub use Rattle.md_rules.specs.Tables as LineTables
 pub mod Node
 pub mod CodeBlocks
 pub mod LeafBlocks
 pub mod Containers
+pub mod Tables
 pub mod Blocks
 pub mod Written
 pub mod Built

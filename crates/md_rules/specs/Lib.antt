@@ -8,3 +8,4 @@ pub mod Rules
 pub mod Quotes
 pub mod Items
 pub mod Lists
+pub mod Tables
