@@ -5,4 +5,6 @@ pub mod BracedLemmas
 pub mod CodeLemmas
 pub mod ItemLemmas
 pub mod ListLemmas
+pub mod CellLemmas
+pub mod TableLemmas
 pub mod Filled

@@ -9,3 +9,4 @@ pub mod Quotes
 pub mod Items
 pub mod Lists
 pub mod Tables
+pub mod Cells

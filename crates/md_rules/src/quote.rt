@@ -1,10 +1,10 @@
 // Quotes and alerts.
 ghost use Rattle.std.specs.Prelude.{◌≡◌, codes, IfOk, IsTrue};
-ghost use Rattle.md_rules.specs.Texts.{begins_with, trimmed};
+ghost use Rattle.md_rules.specs.Texts.{trimmed};
 ghost use Rattle.md_rules.specs.Quotes.{alert_of, first_alert, is_same, kind_of, less, quoted, quotes, unquoted, without_kind};
 
 use crate::shallow::is_shallow;
-use crate::texts::{after_first, trimmed};
+use crate::texts::{after_first, begins_with, trimmed};
 use md_lines::{Line, line_of};
 use md_tree::BlockQuoteKind;
 use std::alloc::{AllocError, Global};
@@ -14,12 +14,6 @@ pub fn quotes(line: &Line) -> bool
     ensures { result ≡ quotes line.now }
 {
     is_shallow(line) && begins_with(b'>', line.body.as_bytes())
-}
-
-fn begins_with(mark: u8, bytes: &[u8]) -> bool
-    ensures { result ≡ begins_with mark bytes.now }
-{
-    !bytes.is_empty() && bytes[0] == mark
 }
 
 /// The line with so many columns taken off.

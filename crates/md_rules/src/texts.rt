@@ -3,7 +3,7 @@ ghost use Rattle.std.specs.Prelude.{◌≡◌, ◌==◌, ◌≤◌, ◌<◌, ◌
 ghost use Rattle.std.specs.List.{list_all, prefix_len, suffix_len, position_or_len};
 ghost use Rattle.std.specs.Str.{IsCharBoundary};
 ghost use Rattle.md_lines.specs.Blanks.{is_blank};
-ghost use Rattle.md_rules.specs.Texts.{ends_word, trimmed, without_start_blanks, words};
+ghost use Rattle.md_rules.specs.Texts.{begins_with, ends_word, trimmed, without_start_blanks, words};
 
 use md_lines::{is_blank, without_end_blanks};
 
@@ -23,7 +23,8 @@ fn solids(bytes: &[u8]) -> usize
 
 /// How many of the bytes at the start are this one.
 pub(crate) fn run_length(mark: u8, bytes: &[u8]) -> usize
-    ensures { result ≡ prefix_len (λ b. b == mark) bytes.now }
+    ensures value { result ≡ prefix_len (λ b. b == mark) bytes.now }
+    ensures within { result ≤ length bytes.now }
 {
     bytes.iter().take_while(|b| **b == mark).count()
 }
@@ -33,6 +34,13 @@ pub(crate) fn are_all(mark: u8, bytes: &[u8]) -> bool
     ensures { result ≡ list_all (λ b. b == mark) bytes.now }
 {
     bytes.iter().all(|b| *b == mark)
+}
+
+/// Whether this byte stands in front.
+pub(crate) fn begins_with(mark: u8, bytes: &[u8]) -> bool
+    ensures { result ≡ begins_with mark bytes.now }
+{
+    !bytes.is_empty() && bytes[0] == mark
 }
 
 /// The text without the blanks at its start.

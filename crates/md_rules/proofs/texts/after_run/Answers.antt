@@ -10,5 +10,5 @@ ascii mark small b e = grind (arith, nat_tests)
 
 pub range_from-requires : goal.range_from-requires
 range_from-requires c =
-    let count : c.run_length.result ≡ prefix_len (λ b. b == c.args.mark) c.args.text.now = c.run_length.ensures ∙ ap (prefix_len (λ b. b == c.args.mark)) c.as_bytes.ensures.value in
+    let count : c.run_length.result ≡ prefix_len (λ b. b == c.args.mark) c.args.text.now = c.run_length.ensures.value ∙ ap (prefix_len (λ b. b == c.args.mark)) c.as_bytes.ensures.value in
     λ _. subst (λ (n : ℕ). IsCharBoundary c.args.text.now n) (sym count) (boundary-front (λ b. b == c.args.mark) (ascii c.args.mark c.requires) c.args.text.now c.utf8.text)
