@@ -2,14 +2,15 @@
 use Rattle.std.proofs.Common.{List, [], ◌∷◌, ◌++◌, ◌≢◌, length, take, drop, get_or, ◌≡◌, ◌≤◌, ◌<◌, ◌+◌, ◌-◌, ℕ, suc, refl, sym, ap, ◌∙◌, arith, true, false, Bool, cond, not, ◌&&◌, ◌||◌, nat_lt}
 use Rattle.std.specs.Str.{IsCharBoundary, IsUtf8}
 use Rattle.std.proofs.lemmas.Bool.{false≢true}
+use Rattle.std.proofs.lemmas.List.{length-map}
 use Rattle.std.proofs.lemmas.Bool.Decides.{nat_tests}
 use Rattle.std.proofs.lemmas.Str.{IsCharBoundary-after_ascii, IsCharBoundary-before_ascii}
 use Rattle.term_text.specs.LineEnds.{ends_line, in_front, is_one_line}
-use Rattle.md_lines.specs.Lines.{is_nothing}
+use Rattle.md_lines.specs.Lines.{LineText, is_nothing}
 use Rattle.md_lines.proofs.LineLemmas.{is_one_line-drop}
 use Rattle.md_rules.specs.Texts.{begins_with, trimmed}
 use Rattle.md_rules.proofs.OneLine.{is_one_line-trimmed}
-use Rattle.md_rules.specs.Tables.{escapes, has_bar, is_bar, parts, without_end_bar, without_start_bar}
+use Rattle.md_rules.specs.Tables.{cells, escapes, has_bar, inner, is_bar, parts, without_end_bar, without_start_bar}
 use Rattle.md_rules.specs.Cells.{before_bar, escapes_behind}
 
 is_bar-byte : (escaped : Bool) (b : ℕ) → is_bar escaped b ≡ true → b ≡ 124
@@ -71,6 +72,23 @@ parts-last escaped (b ∷ bs) le = go (is_bar escaped b) (parts-last (escapes b)
     go : (v : Bool) → (length bs ≤ before_bar (escapes b) bs → parts (escapes b) bs ≡ bs ∷ []) → suc (length bs) ≤ cond v 0 (suc (before_bar (escapes b) bs)) → cond v ([] ∷ parts false bs) (in_front b (parts (escapes b) bs)) ≡ (b ∷ bs) ∷ []
     go true h le = absurd (omega arith)
     go false h le = ap (in_front b) (h (omega arith))
+
+in_front-some : (b : ℕ) (ls : List (List ℕ)) → 0 < length (in_front b ls)
+in_front-some b [] = omega arith
+in_front-some b (l ∷ ls) = omega arith
+
+parts-some : (escaped : Bool) (bs : List ℕ) → 0 < length (parts escaped bs)
+unfolding parts
+parts-some escaped [] = omega arith
+parts-some escaped (b ∷ bs) = go (is_bar escaped b)
+  where
+    go : (v : Bool) → 0 < length (cond v ([] ∷ parts false bs) (in_front b (parts (escapes b) bs)))
+    go true = omega arith
+    go false = in_front-some b (parts (escapes b) bs)
+
+-- each line has one cell at least
+pub cells-some : (line : LineText) → 0 < length (cells line)
+cells-some line = let count = length-map (parts false (inner line)) trimmed in omega (arith, count, parts-some false (inner line))
 
 -- a text may be cut before a bar
 pub boundary-bar : (text : List ℕ) → before_bar false text < length text → IsCharBoundary text (before_bar false text)

@@ -8,6 +8,7 @@ mod delimiter;
 mod fence;
 mod heading;
 mod item;
+pub mod laws;
 mod list;
 mod quote;
 mod rule;

@@ -2,6 +2,7 @@ use super::*;
 use md_lines::{Line, line_of, lines_of};
 use std::alloc::{AllocError, Global};
 use std::test::Fail;
+use term_text::Alignment;
 
 /// Lines, each by its indent and its body.
 fn shown(alloc: Global, lines: &[Line]) -> Result<String, AllocError> {
@@ -43,5 +44,90 @@ fn containers_take_off_marks_and_columns(rt: HostRuntime) -> Result<(), Fail> {
     }
     assert_eq!(rt; words.as_str(), "0:d|2:e|");
     assert_eq!(rt; text_from(rt.alloc(), 1, &line_of("   a"))?.as_str(), "  a");
+    Ok(())
+}
+
+#[test]
+fn a_table_starts_at_a_header_and_delimiters(rt: HostRuntime) -> Result<(), Fail> {
+    let rows = [
+        ("| a\\|b |\n|---|", true),
+        ("a | b\n:-|-:", true),
+        ("|\n|-|", true),
+        ("||\n|:-:|", true),
+        ("| a |", false),
+        ("a\n|---|", false),
+        ("a \\|\n|---|", false),
+        ("a |\n---", false),
+        ("| a |\n|:|", false),
+        ("| a |\n|- -|", false),
+        ("| a | b |\n|---|", false),
+        ("| a |\n|---|---|", false),
+        ("    | a |\n|---|", false),
+        ("| a |\n    |---|", false),
+    ];
+    for (text, starts) in rows {
+        let lines = lines_of(rt.alloc(), text)?;
+        let (line, later) = lines.as_slice().split_first().expect(&rt, text);
+        assert_eq!(rt; starts_table(line, later), starts, "{text}");
+    }
+    Ok(())
+}
+
+#[test]
+fn rows_end_where_another_block_begins(rt: HostRuntime) -> Result<(), Fail> {
+    let rows = [
+        ("| a |\nb | c\n\n| d |", true, 2),
+        ("| a |\nb", true, 1),
+        ("| a |\n# | b |", false, 1),
+        ("``` | a", false, 0),
+        ("> | a", true, 0),
+        ("> | a", false, 1),
+        ("2. | a", true, 0),
+        ("2. | a", false, 1),
+        ("    | a |", true, 0),
+    ];
+    for (text, nests, count) in rows {
+        let lines = lines_of(rt.alloc(), text)?;
+        assert_eq!(rt; row_count(nests, lines.as_slice()), count, "{text}");
+    }
+    Ok(())
+}
+
+/// The cells of a line, each in brackets.
+fn cells_shown(alloc: Global, line: &Line) -> Result<String, AllocError> {
+    let mut shown = String::new(alloc);
+    let mut cells = Cells::of(line);
+    while let Some(cell) = cells.next_cell() {
+        write!(shown, "[{cell}]")?;
+    }
+    Ok(shown)
+}
+
+#[test]
+fn a_line_is_cut_into_cells_at_its_bars(rt: HostRuntime) -> Result<(), Fail> {
+    let rows = [
+        ("| a\\|b |", "[a\\|b]"),
+        ("| `a|b` |", "[`a][b`]"),
+        ("|a|b", "[a][b]"),
+        ("a | b |\t", "[a][b]"),
+        ("a \\|", "[a \\|]"),
+        ("|é||漢\\\\|", "[é][][漢\\\\|]"),
+        ("|", "[]"),
+        ("||", "[]"),
+        ("|||", "[][]"),
+    ];
+    for (text, cells) in rows {
+        let lines = lines_of(rt.alloc(), text)?;
+        let line = lines.as_slice().first().expect(&rt, text);
+        assert_eq!(rt; cells_shown(rt.alloc(), line)?.as_str(), cells, "{text}");
+    }
+    let sides = alignments(rt.alloc(), &line_of("|:-|-:|:-:|---|"))?;
+    let wanted = [
+        Alignment::Left,
+        Alignment::Right,
+        Alignment::Center,
+        Alignment::None,
+    ];
+    assert_eq!(rt; sides.as_slice(), wanted.as_slice());
     Ok(())
 }
