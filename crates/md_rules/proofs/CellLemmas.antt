@@ -16,15 +16,6 @@ use Rattle.md_rules.specs.Cells.{before_bar, escapes_behind}
 is_bar-byte : (escaped : Bool) (b : ℕ) → is_bar escaped b ≡ true → b ≡ 124
 is_bar-byte escaped b e = grind (arith, nat_tests)
 
-pub before_bar-within : (escaped : Bool) (bs : List ℕ) → before_bar escaped bs ≤ length bs
-unfolding before_bar
-before_bar-within escaped [] = omega arith
-before_bar-within escaped (b ∷ bs) = go (is_bar escaped b) (before_bar-within (escapes b) bs)
-  where
-    go : (v : Bool) → before_bar (escapes b) bs ≤ length bs → cond v 0 (suc (before_bar (escapes b) bs)) ≤ suc (length bs)
-    go true le = omega arith
-    go false le = omega arith
-
 -- a bar stands where one was looked for
 pub before_bar-byte : (escaped : Bool) (bs : List ℕ) → before_bar escaped bs < length bs → get_or bs (before_bar escaped bs) 0 ≡ 124
 unfolding before_bar
