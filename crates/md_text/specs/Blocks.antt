@@ -1,5 +1,5 @@
 -- What elements lay out before and behind what is inside them.
-use Rattle.std.specs.Prelude.{ℕ, List, if◌then◌else◌, Bool, true, false, not, ◌&&◌}
+use Rattle.std.specs.Prelude.{if◌then◌else◌, Bool, true, false, not, ◌&&◌}
 use Rattle.md_tree.specs.declared.event.Tag.{Tag}
 use Rattle.md_tree.specs.declared.event.Tag.TheVariants as tag
 use Rattle.md_table.specs.Sheet.{Sheet}
@@ -8,11 +8,9 @@ use Rattle.md_text.specs.declared.environment.Spacing.{Spacing}
 use Rattle.md_text.specs.declared.environment.Fresh.{Fresh}
 use Rattle.md_text.specs.declared.environment.Fresh.TheVariants as fresh
 use Rattle.md_text.specs.Laid.{Laid, nothing_laid, then_laid, open_laid, gap_laid, with_due}
-use Rattle.md_text.specs.Look.{Look}
 use Rattle.md_text.specs.Headings.{heading, heading_end}
 use Rattle.md_text.specs.Inlines.{link_end}
 use Rattle.md_text.specs.Containers.{quote, list, item}
-use Rattle.md_text.specs.Code.{code_block}
 
 abbrev pub is_fresh : Fresh → Bool
 is_fresh fresh.No = false
@@ -37,21 +35,18 @@ enter sheet env spacing (tag.List start) = list env spacing
 enter sheet env spacing tag.Item = item sheet env spacing
 enter sheet env spacing tag.DefinitionListTitle = paragraph env spacing
 enter sheet env spacing tag.DefinitionListDefinition = paragraph env spacing
-enter sheet env spacing tag.TableCell = paragraph env spacing
 enter sheet env spacing tag.MetadataBlock = paragraph env spacing
 enter sheet env spacing _ = nothing_laid spacing
 
--- behind what is inside, whose joined texts are content: a line is due behind a block
-abbrev pub leave : Look → Environment → Spacing → Tag → List ℕ → Laid
-leave look env spacing tag.Paragraph content = nothing_laid (with_due true spacing)
-leave look env spacing (tag.Heading level id classes attrs) content = heading_end look.sheet spacing id classes attrs
-leave look env spacing (tag.CodeBlock kind) content = code_block look env spacing kind content
-leave look env spacing tag.HtmlBlock content = nothing_laid (with_due true spacing)
-leave look env spacing (tag.BlockQuote kind) content = nothing_laid (with_due true spacing)
-leave look env spacing (tag.List start) content = nothing_laid (with_due true spacing)
-leave look env spacing tag.DefinitionListTitle content = nothing_laid (with_due true spacing)
-leave look env spacing tag.DefinitionListDefinition content = nothing_laid (with_due true spacing)
-leave look env spacing tag.TableCell content = nothing_laid (with_due true spacing)
-leave look env spacing tag.MetadataBlock content = nothing_laid (with_due true spacing)
-leave look env spacing (tag.Link dest) content = link_end look.sheet spacing dest
-leave look env spacing _ content = nothing_laid spacing
+-- behind what is inside: a line is due behind a block
+abbrev pub leave : Sheet → Spacing → Tag → Laid
+leave sheet spacing tag.Paragraph = nothing_laid (with_due true spacing)
+leave sheet spacing (tag.Heading level id classes attrs) = heading_end sheet spacing id classes attrs
+leave sheet spacing tag.HtmlBlock = nothing_laid (with_due true spacing)
+leave sheet spacing (tag.BlockQuote kind) = nothing_laid (with_due true spacing)
+leave sheet spacing (tag.List start) = nothing_laid (with_due true spacing)
+leave sheet spacing tag.DefinitionListTitle = nothing_laid (with_due true spacing)
+leave sheet spacing tag.DefinitionListDefinition = nothing_laid (with_due true spacing)
+leave sheet spacing tag.MetadataBlock = nothing_laid (with_due true spacing)
+leave sheet spacing (tag.Link dest) = link_end sheet spacing dest
+leave sheet spacing _ = nothing_laid spacing

@@ -12,7 +12,7 @@ use Rattle.md_table.specs.Sheet.{Sheet}
 use Rattle.md_text.specs.declared.environment.Environment.{Environment}
 use Rattle.md_text.specs.declared.environment.Spacing.{Spacing}
 use Rattle.md_text.specs.declared.environment.Fresh.TheVariants.{No}
-use Rattle.md_text.specs.declared.environment.Within.TheVariants.{Lines, Code}
+use Rattle.md_text.specs.declared.environment.Within.TheVariants.{Lines, Code, Cell}
 use Rattle.md_text.specs.Alerts.{alert_of}
 use Rattle.md_text.specs.Markers.{marker_width, number_after}
 
@@ -58,8 +58,8 @@ abbrev pub with_task : ℕ → Nodes → ℕ
 with_task width inside = if begins_with_task inside then width + 4 else width
 
 -- inside an element with these nodes: quotes add a mark and set the line style, lists are one deeper and begin at their number,
--- items have a width, styled inlines and links patch the inline style, the leaves of a block of code are its content, and
--- others leave all as it is
+-- items have a width, styled inlines and links patch the inline style, leaves in a block of code are its content and
+-- those in a table its cells, and others leave all as it is
 abbrev pub environment_inside : Sheet → Environment → Tag → Nodes → Environment
 environment_inside sheet env (tag.BlockQuote kind) inside = record env { quotes = env.quotes + 1; line_style = quote_style sheet kind }
 environment_inside sheet env (tag.List start) inside = record env { depth = env.depth + 1; number = start }
@@ -71,6 +71,7 @@ environment_inside sheet env tag.Superscript inside = styled env (italic (dim no
 environment_inside sheet env tag.Subscript inside = styled env (italic (dim no_style))
 environment_inside sheet env (tag.Link dest) inside = styled env sheet.link
 environment_inside sheet env (tag.CodeBlock kind) inside = record env { within = Code }
+environment_inside sheet env (tag.Table alignments) inside = record env { within = Cell }
 environment_inside sheet env _ inside = env
 
 -- behind an element all is as before it, but that an item is followed by the list's next number

@@ -7,8 +7,6 @@ use Rattle.md_tree.specs.declared.event.Event.TheVariants as event
 use Rattle.md_table.specs.Sheet.{Sheet}
 use Rattle.md_text.specs.declared.environment.Environment.{Environment}
 use Rattle.md_text.specs.declared.environment.Spacing.{Spacing}
-use Rattle.md_text.specs.declared.environment.Within.{Within}
-use Rattle.md_text.specs.declared.environment.Within.TheVariants.{Lines, Code}
 use Rattle.md_text.specs.Marks.{Put, plain_span, styled_span}
 use Rattle.md_text.specs.Laid.{Laid, nothing_laid, then_laid, open_laid, gap_laid, join_laid, put_laid, put_all, with_due}
 
@@ -62,20 +60,12 @@ rule env spacing =
     then_laid (open_laid env gapped) (λ opened.
     then_laid (put_laid opened (plain_span (codes "---"))) (λ ruled. nothing_laid (with_due true ruled))))
 
--- a leaf in lines; those without a row as yet are laid out as nothing
-abbrev pub line_leaf : Sheet → Environment → Spacing → Event → Laid
-line_leaf sheet env spacing (event.Text bytes) = text env spacing bytes
-line_leaf sheet env spacing (event.Code bytes) = code sheet env spacing bytes
-line_leaf sheet env spacing event.SoftBreak = soft_break spacing
-line_leaf sheet env spacing event.HardBreak = hard_break env spacing
-line_leaf sheet env spacing event.Rule = rule env spacing
-line_leaf sheet env spacing (event.TaskListMarker is_done) = task_mark spacing is_done
-line_leaf sheet env spacing _ = nothing_laid spacing
-
--- the content of a block of code is laid out as a whole behind it, and its leaves are nothing by themselves
-abbrev pub leaf_within : Within → Sheet → Environment → Spacing → Event → Laid
-leaf_within Lines sheet env spacing e = line_leaf sheet env spacing e
-leaf_within Code sheet env spacing e = nothing_laid spacing
-
+-- a leaf; those without a row as yet are laid out as nothing
 abbrev pub leaf : Sheet → Environment → Spacing → Event → Laid
-leaf sheet env spacing e = leaf_within env.within sheet env spacing e
+leaf sheet env spacing (event.Text bytes) = text env spacing bytes
+leaf sheet env spacing (event.Code bytes) = code sheet env spacing bytes
+leaf sheet env spacing event.SoftBreak = soft_break spacing
+leaf sheet env spacing event.HardBreak = hard_break env spacing
+leaf sheet env spacing event.Rule = rule env spacing
+leaf sheet env spacing (event.TaskListMarker is_done) = task_mark spacing is_done
+leaf sheet env spacing _ = nothing_laid spacing

@@ -1,7 +1,8 @@
 -- The layout of a tree.
-use Rattle.std.specs.Prelude.{ℕ, List, []}
+use Rattle.std.specs.Prelude.{List, []}
 use Rattle.term_text.specs.Text.{LineView}
 use Rattle.md_tree.specs.declared.event.Tag.{Tag}
+use Rattle.md_tree.specs.declared.event.Tag.TheVariants as tag
 use Rattle.md_tree.specs.Tree.{Nodes, Empty, Leaf, Branch}
 use Rattle.md_text.specs.declared.environment.Environment.{Environment}
 use Rattle.md_text.specs.declared.environment.Spacing.{Spacing}
@@ -12,19 +13,24 @@ use Rattle.md_text.specs.Environment.{first_environment, first_spacing, environm
 use Rattle.md_text.specs.Texts.{texts}
 use Rattle.md_text.specs.Blocks.{enter, leave}
 use Rattle.md_text.specs.Inlines.{leaf}
+use Rattle.md_text.specs.Code.{code_block}
+use Rattle.md_text.specs.Tables.{table, table_of}
 
--- an element: what stands before, in and behind it
-abbrev pub branch : Look → Environment → Spacing → Tag → (Spacing → Laid) → List ℕ → Laid
-branch look env spacing tag inside content =
+-- An element with these nodes: a block of code and a table are laid out as a whole, and of others, what stands before, in and
+-- behind them.
+abbrev pub branch : Look → Environment → Spacing → Tag → Nodes → (Spacing → Laid) → Laid
+branch look env spacing (tag.CodeBlock kind) nodes inside = code_block look env spacing kind (texts nodes)
+branch look env spacing (tag.Table alignments) nodes inside = table look env spacing (table_of look.sheet env alignments nodes)
+branch look env spacing tag nodes inside =
     then_laid (enter look.sheet env spacing tag) (λ entered.
-    then_laid (inside entered) (λ behind. leave look env behind tag content))
+    then_laid (inside entered) (λ behind. leave look.sheet behind tag))
 
 -- the environment is only handed down: what follows an element has the environment from before it, with a list's next number
 abbrev pub layout : Look → Environment → Spacing → Nodes → Laid
 layout look env spacing Empty = nothing_laid spacing
 layout look env spacing (Leaf e rest) = then_laid (leaf look.sheet env spacing e) (λ behind. layout look env behind rest)
 layout look env spacing (Branch tag inside rest) =
-    then_laid (branch look env spacing tag (λ entered. layout look (environment_inside look.sheet env tag inside) entered inside) (texts inside))
+    then_laid (branch look env spacing tag inside (λ entered. layout look (environment_inside look.sheet env tag inside) entered inside))
     (λ behind. layout look (environment_after env tag) behind rest)
 
 -- the layout of a document

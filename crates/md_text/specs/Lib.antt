@@ -1,4 +1,5 @@
 pub mod Marks
+pub mod Spans
 pub mod Laid
 pub mod Look
 pub mod Alerts
@@ -11,6 +12,7 @@ pub mod Texts
 pub mod Blocks
 pub mod Inlines
 pub mod Code
+pub mod Tables
 pub mod Layout
 pub mod Pieces
 pub mod State

@@ -1,5 +1,12 @@
 -- What the options of a rendering hold.
+use Rattle.std.specs.Prelude.{ℕ, Bool, false, Option, None}
 
--- the styles
+-- the styles, the columns that tables are to fit in, if a width is set, and whether border lines stand between their rows
 pub record OptionsView (S : Type 0) : Type 0 where
   pub styles : S
+  pub table_width : Option ℕ
+  pub row_dividers : Bool
+
+-- options with a style sheet and nothing else set
+abbrev pub plain_options : {S : Type 0} → S → OptionsView S
+plain_options styles = record { styles = styles; table_width = None; row_dividers = false }

@@ -10,12 +10,12 @@ use Rattle.md_tree.specs.declared.event.Tag.{Tag}
 use Rattle.md_tree.specs.declared.event.Tag.TheVariants as tag
 use Rattle.md_tree.specs.Tree.{Nodes, Empty, Leaf, Branch}
 use Rattle.ansi_text.specs.Ansi.{ansi}
+use Rattle.md_picture.specs.Picture.{TableView}
 use Rattle.md_table.specs.Defaults.{bold}
 use Rattle.md_table.specs.Sheet.{Sheet}
 use Rattle.md_text.specs.declared.environment.Environment.{Environment}
-use Rattle.md_text.specs.declared.environment.Within.{Within}
-use Rattle.md_text.specs.declared.environment.Within.TheVariants.{Lines, Code}
 use Rattle.md_text.specs.Marks.{Mark, Put, plain_span, styled_span}
+use Rattle.md_text.specs.Spans.{piece, each_pieces, pieces_of}
 use Rattle.md_text.specs.Look.{Look}
 use Rattle.md_text.specs.Environment.{first_environment, environment_inside, environment_after}
 use Rattle.md_text.specs.Headings.{level_number, with_blank, attribute_suffix}
@@ -25,6 +25,7 @@ use Rattle.md_text.specs.Texts.{texts}
 use Rattle.md_text.specs.Alerts.{alert_of}
 use Rattle.md_text.specs.Containers.{alert_title}
 use Rattle.md_text.specs.Markers.{marker}
+use Rattle.md_text.specs.Tables.{table_of, table_picture}
 
 -- the spans that marks put
 abbrev pub puts : List Mark → List SpanView
@@ -32,37 +33,18 @@ puts [] = []
 puts (Put span ∷ marks) = span ∷ puts marks
 puts (_ ∷ marks) = puts marks
 
--- a span whose text is empty is no piece
-abbrev pub piece : SpanView → List SpanView
-piece span = if length span.text == 0 then [] else span ∷ []
-
--- the pieces of each of some things
-abbrev pub each_pieces : {A : Type 0} → (A → List SpanView) → List A → List SpanView
-each_pieces one [] = []
-each_pieces one (x ∷ xs) = one x ++ each_pieces one xs
-
-abbrev pub pieces_of : List SpanView → List SpanView
-pieces_of spans = each_pieces piece spans
-
 abbrev pub line_pieces : Environment → List (List ℕ) → List SpanView
 line_pieces env all = each_pieces (λ line. piece (styled_span line env.inline_style)) all
 
--- in lines a text's pieces are its lines, code is one in its own style, a soft break's is a blank, a rule's is three dashes,
--- and a task mark's is a box
-abbrev pub line_leaf_pieces : Sheet → Environment → Event → List SpanView
-line_leaf_pieces sheet env (event.Text bytes) = line_pieces env (lines bytes)
-line_leaf_pieces sheet env (event.Code bytes) = piece (styled_span bytes sheet.code)
-line_leaf_pieces sheet env event.SoftBreak = plain_span (codes " ") ∷ []
-line_leaf_pieces sheet env event.Rule = plain_span (codes "---") ∷ []
-line_leaf_pieces sheet env (event.TaskListMarker is_done) = plain_span (if is_done then codes "[x] " else codes "[ ] ") ∷ []
-line_leaf_pieces sheet env _ = []
-
-abbrev pub pieces_within : Within → Sheet → Environment → Event → List SpanView
-pieces_within Lines sheet env e = line_leaf_pieces sheet env e
-pieces_within Code sheet env e = []
-
+-- a text's pieces are its lines, code is one in its own style, a soft break's is a blank, a rule's is three dashes, and a task
+-- mark's is a box
 abbrev pub leaf_pieces : Sheet → Environment → Event → List SpanView
-leaf_pieces sheet env e = pieces_within env.within sheet env e
+leaf_pieces sheet env (event.Text bytes) = line_pieces env (lines bytes)
+leaf_pieces sheet env (event.Code bytes) = piece (styled_span bytes sheet.code)
+leaf_pieces sheet env event.SoftBreak = plain_span (codes " ") ∷ []
+leaf_pieces sheet env event.Rule = plain_span (codes "---") ∷ []
+leaf_pieces sheet env (event.TaskListMarker is_done) = plain_span (if is_done then codes "[x] " else codes "[ ] ") ∷ []
+leaf_pieces sheet env _ = []
 
 -- a fence is one piece with the text behind it
 abbrev pub fence_pieces : Sheet → List ℕ → List SpanView
@@ -97,21 +79,29 @@ pieces_before sheet env (tag.BlockQuote kind) = quote_pieces sheet kind
 pieces_before sheet env tag.Item = piece (marker sheet env.depth env.number)
 pieces_before sheet env _ = []
 
--- behind what is inside: a heading's attributes, a link's destination, and a block of code as a whole
-abbrev pub pieces_behind : Look → Environment → Tag → List ℕ → List SpanView
-pieces_behind look env (tag.Heading level id classes attrs) content =
-    piece (styled_span (attribute_suffix id classes attrs) look.sheet.heading_meta)
-pieces_behind look env (tag.Link dest) content = pieces_of (link_spans look.sheet dest)
-pieces_behind look env (tag.CodeBlock kind) content = code_pieces look env kind content
-pieces_behind look env _ content = []
+-- the pieces of a table are the spans of its picture
+abbrev pub table_pieces : Look → Environment → TableView → List SpanView
+table_pieces look env view = each_pieces (λ (line : LineView). pieces_of line.spans) (table_picture look env view)
+
+-- behind what is inside: a heading's attributes, and a link's destination
+abbrev pub pieces_behind : Sheet → Tag → List SpanView
+pieces_behind sheet (tag.Heading level id classes attrs) = piece (styled_span (attribute_suffix id classes attrs) sheet.heading_meta)
+pieces_behind sheet (tag.Link dest) = pieces_of (link_spans sheet dest)
+pieces_behind sheet _ = []
+
+-- the pieces of an element with these nodes, those of the nodes being given: of a block of code and of a table as a whole, and
+-- of others, what stands before, in and behind them
+abbrev pub branch_pieces : Look → Environment → Tag → Nodes → List SpanView → List SpanView
+branch_pieces look env (tag.CodeBlock kind) nodes inside = code_pieces look env kind (texts nodes)
+branch_pieces look env (tag.Table alignments) nodes inside = table_pieces look env (table_of look.sheet env alignments nodes)
+branch_pieces look env tag nodes inside = pieces_before look.sheet env tag ++ (inside ++ pieces_behind look.sheet tag)
 
 -- the pieces of nodes, in order
 abbrev pub pieces : Look → Environment → Nodes → List SpanView
 pieces look env Empty = []
 pieces look env (Leaf e rest) = leaf_pieces look.sheet env e ++ pieces look env rest
 pieces look env (Branch tag inside rest) =
-    (pieces_before look.sheet env tag
-    ++ (pieces look (environment_inside look.sheet env tag inside) inside ++ pieces_behind look env tag (texts inside)))
+    branch_pieces look env tag inside (pieces look (environment_inside look.sheet env tag inside) inside)
     ++ pieces look (environment_after env tag) rest
 
 abbrev pub document_pieces : Look → Nodes → List SpanView

@@ -1,44 +1,87 @@
 -- The machine that lays out a tree from its events, one by one.
-use Rattle.std.specs.Prelude.{ℕ, ◌+◌, List, [], ◌∷◌, ◌++◌}
-use Rattle.term_text.specs.Text.{LineView}
+use Rattle.std.specs.Prelude.{ℕ, ◌+◌, List, [], ◌∷◌, ◌++◌, fold}
+use Rattle.term_text.specs.Text.{SpanView, LineView}
+use Rattle.term_text.specs.declared.alignment.Alignment.{Alignment}
 use Rattle.md_tree.specs.declared.event.Event.{Event}
 use Rattle.md_tree.specs.declared.event.Event.TheVariants as event
 use Rattle.md_tree.specs.declared.event.Tag.{Tag}
 use Rattle.md_tree.specs.declared.event.Tag.TheVariants as tag
 use Rattle.md_tree.specs.Tree.{Empty}
+use Rattle.md_picture.specs.Cells.{empty_cell}
+use Rattle.md_table.specs.Builder.{BuilderView, with_span}
 use Rattle.md_table.specs.Sheet.{Sheet}
 use Rattle.md_text.specs.declared.environment.Environment.{Environment}
 use Rattle.md_text.specs.declared.environment.Spacing.{Spacing}
 use Rattle.md_text.specs.declared.environment.Within.{Within}
-use Rattle.md_text.specs.declared.environment.Within.TheVariants.{Lines, Code}
+use Rattle.md_text.specs.declared.environment.Within.TheVariants.{Lines, Code, Cell}
 use Rattle.md_text.specs.Marks.{draws}
 use Rattle.md_text.specs.Laid.{Laid}
 use Rattle.md_text.specs.Look.{Look}
 use Rattle.md_text.specs.Environment.{first_environment, first_spacing, environment_inside, environment_after}
 use Rattle.md_text.specs.Texts.{leaf_text}
 use Rattle.md_text.specs.Blocks.{enter, leave}
-use Rattle.md_text.specs.Inlines.{leaf}
+use Rattle.md_text.specs.Inlines.{link_spans, leaf}
+use Rattle.md_text.specs.Code.{code_block}
+use Rattle.md_text.specs.Tables.{flat_leaf, table}
 
-abbrev pub content_within : Within → List ℕ → Event → List ℕ
-content_within Lines content e = content
-content_within Code content e = content ++ leaf_text e
+-- ---- tables while they are built
+
+-- a table without cells
+abbrev pub new_builder : List Alignment → BuilderView
+new_builder alignments =
+    record { table = record { alignments = alignments; header = []; rows = [] }; row = []; cell = empty_cell }
+
+-- spans added to the cell that is not finished
+abbrev pub with_spans : BuilderView → List SpanView → BuilderView
+with_spans builder spans = record builder { cell = fold (λ cell span. with_span cell span) builder.cell spans }
+
+-- a table starts, or a cell
+abbrev pub started_in_table : BuilderView → Tag → BuilderView
+started_in_table builder (tag.Table alignments) = new_builder alignments
+started_in_table builder tag.TableCell = record builder { cell = empty_cell }
+started_in_table builder _ = builder
+
+-- a part of a table ends; behind the inlines of a link its destination goes to the cell
+abbrev pub ended_in_table : Sheet → BuilderView → Tag → BuilderView
+ended_in_table sheet builder tag.TableCell = record builder { row = builder.row ++ builder.cell ∷ []; cell = empty_cell }
+ended_in_table sheet builder tag.TableHead = record builder { table = record builder.table { header = builder.row }; row = [] }
+ended_in_table sheet builder tag.TableRow =
+    record builder { table = record builder.table { rows = builder.table.rows ++ builder.row ∷ [] }; row = [] }
+ended_in_table sheet builder (tag.Link dest) = with_spans builder (link_spans sheet dest)
+ended_in_table sheet builder _ = builder
+
+-- behind a table none is being built
+abbrev pub builder_behind : BuilderView → Tag → BuilderView
+builder_behind builder (tag.Table alignments) = new_builder []
+builder_behind builder _ = builder
+
+-- ---- the state
 
 -- an element that has begun, and the environment round it
 pub record Begun : Type 0 where
   pub tag : Tag
   pub environment : Environment
 
--- the open elements, innermost first, the environment and the spacing state here, the content of the open block of code
--- so far, and the lines so far
+-- the open elements, innermost first, the environment and the spacing state here, the content of the open block of code and
+-- the open table so far, and the lines so far
 pub record State : Type 0 where
   pub open_elements : List Begun
   pub environment : Environment
   pub spacing : Spacing
   pub content : List ℕ
+  pub builder : BuilderView
   pub lines : List LineView
 
 abbrev pub first_state : State
-first_state = record { open_elements = []; environment = first_environment; spacing = first_spacing; content = []; lines = [] }
+first_state =
+    record {
+      open_elements = [];
+      environment = first_environment;
+      spacing = first_spacing;
+      content = [];
+      builder = new_builder [];
+      lines = [];
+    }
 
 -- a layout is drawn
 abbrev pub laid : State → Laid → State
@@ -48,6 +91,7 @@ laid state new =
       environment = state.environment;
       spacing = new.after;
       content = state.content;
+      builder = state.builder;
       lines = draws state.lines new.marks;
     }
 
@@ -60,6 +104,7 @@ started sheet state tag =
       environment = environment_inside sheet state.environment tag Empty;
       spacing = entered.after;
       content = state.content;
+      builder = started_in_table state.builder tag;
       lines = draws state.lines entered.marks;
     }
 
@@ -71,13 +116,24 @@ restored_from outer t inner = environment_after outer t
 abbrev pub restored : Begun → Environment → Environment
 restored element inner = restored_from element.environment element.tag inner
 
+-- what an element lays out at its end: blocks of code and tables as a whole
+abbrev pub left : Look → State → Tag → Laid
+left look state (tag.CodeBlock kind) = code_block look state.environment state.spacing kind state.content
+left look state (tag.Table alignments) = table look state.environment state.spacing state.builder.table
+left look state tag = leave look.sheet state.spacing tag
+
+-- an element ends in a table, or elsewhere
+abbrev pub ended_within : Within → Look → State → Tag → State
+ended_within Cell look state tag = record state { builder = ended_in_table look.sheet state.builder tag }
+ended_within _ look state tag =
+    laid (record state { content = []; builder = builder_behind state.builder tag }) (left look state tag)
+
 -- an element ends, in the environment from before it
 abbrev pub ended_from : Look → State → List Begun → State
 ended_from look state [] = state
 ended_from look state (element ∷ outer) =
     let env = restored element state.environment in
-    laid (record state { open_elements = outer; environment = env; content = [] })
-    (leave look env state.spacing element.tag state.content)
+    ended_within env.within look (record state { open_elements = outer; environment = env }) element.tag
 
 abbrev pub ended : Look → State → State
 ended look state = ended_from look state state.open_elements
@@ -87,15 +143,16 @@ abbrev pub environment_behind : Environment → Event → Environment
 environment_behind env (event.TaskListMarker is_done) = record env { item_width = env.item_width + 4 }
 environment_behind env e = env
 
--- a leaf is laid out, or is content
+-- a leaf is laid out, is content of a block of code, or goes to a cell
+abbrev pub leaf_within : Within → Sheet → State → Event → State
+leaf_within Lines sheet state e = laid state (leaf sheet state.environment state.spacing e)
+leaf_within Code sheet state e = record state { content = state.content ++ leaf_text e }
+leaf_within Cell sheet state e = record state { builder = with_spans state.builder (flat_leaf sheet state.environment e) }
+
 abbrev pub leaf_step : Sheet → State → Event → State
 leaf_step sheet state e =
-    laid
-    (record state {
-      environment = environment_behind state.environment e;
-      content = content_within state.environment.within state.content e;
-    })
-    (leaf sheet state.environment state.spacing e)
+    let behind = leaf_within state.environment.within sheet state e in
+    record behind { environment = environment_behind state.environment e }
 
 abbrev pub step : Look → State → Event → State
 step look state (event.Start tag) = started look.sheet state tag

@@ -18,6 +18,8 @@ pub enum Within {
     Lines,
     /// A block of code, whose content they are.
     Code,
+    /// A table, to whose open cell they go.
+    Cell,
 }
 
 /// What is handed down into elements, and never comes back from them.
@@ -102,6 +104,10 @@ impl Environment {
             Tag::Link { .. } => self.styled(sheet.link()),
             Tag::CodeBlock(_) => Environment {
                 within: Within::Code,
+                ..self
+            },
+            Tag::Table(_) => Environment {
+                within: Within::Cell,
                 ..self
             },
             _ => self,

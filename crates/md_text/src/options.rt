@@ -1,14 +1,18 @@
 // The options of a rendering.
-ghost use Rattle.std.specs.Prelude.{◌≡◌};
-ghost use Rattle.md_text.specs.Options.{OptionsView};
+ghost use Rattle.std.specs.Prelude.{◌≡◌, Some};
+ghost use Rattle.md_table.specs.Builder.{dividers_of};
+ghost use Rattle.md_text.specs.Options.{plain_options};
 
-use md_table::{DefaultStyleSheet, StyleSheet};
+use md_table::{DefaultStyleSheet, RowDividers, StyleSheet};
 use std::marker::Model;
 
-/// How a tree is laid out: its style sheet.
+/// How a tree is laid out: its style sheet, the columns that tables are to fit in, if a width is set, and whether border
+/// lines stand between their rows.
 #[derive(Drop)]
 pub struct Options<S: StyleSheet> {
     styles: S,
+    table_width: Option<u16>,
+    row_dividers: bool,
 }
 
 impl<S: StyleSheet> Model for Options<S> {
@@ -16,15 +20,40 @@ impl<S: StyleSheet> Model for Options<S> {
 
     ghost Value = { OptionsView S };
 
-    ghost view = { λ o. record { styles = o.styles } };
+    ghost view = { λ o. record { styles = o.styles; table_width = o.table_width; row_dividers = o.row_dividers } };
 }
 
 impl<S: StyleSheet> Options<S> {
-    /// Options with this style sheet; takes no memory.
+    /// Options with this style sheet, without a width for tables and without lines between their rows; takes no memory.
     pub fn new(styles: S) -> Options<S>
-        ensures { result ≡ record { styles = styles } }
+        ensures { result ≡ plain_options styles }
     {
-        Options { styles }
+        Options {
+            styles,
+            table_width: None,
+            row_dividers: false,
+        }
+    }
+
+    /// The same options with tables that are to fit in this many columns, less those of the quote marks and of the item
+    /// that they stand in; takes no memory.
+    pub fn table_width(self, width: u16) -> Options<S>
+        ensures { result ≡ record self { table_width = Some width } }
+    {
+        Options {
+            table_width: Some(width),
+            ..self
+        }
+    }
+
+    /// The same options with border lines between the rows of tables, or without them; takes no memory.
+    pub fn table_row_dividers(self, enabled: bool) -> Options<S>
+        ensures { result ≡ record self { row_dividers = enabled } }
+    {
+        Options {
+            row_dividers: enabled,
+            ..self
+        }
     }
 
     /// The style sheet.
@@ -36,7 +65,9 @@ impl<S: StyleSheet> Options<S> {
 }
 
 impl Default for Options<DefaultStyleSheet> {
-    ghost is_default = { λ o. o ≡ record { styles = record {} } };
+    ghost use Rattle.md_text.specs.Options.{plain_options};
+
+    ghost is_default = { λ o. o ≡ plain_options (record {}) };
 
     fn default() -> Options<DefaultStyleSheet> {
         Options::new(DefaultStyleSheet)

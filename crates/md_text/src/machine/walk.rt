@@ -66,6 +66,7 @@ impl<'e, 'a> Machine<'e, 'a> {
         match self.environment.within {
             Within::Lines => self.line_leaf(sheet, leaf)?,
             Within::Code => self.keep(leaf)?,
+            Within::Cell => {}
         }
         self.environment = self.environment.behind(leaf)?;
         Ok(())
