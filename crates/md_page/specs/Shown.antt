@@ -1,6 +1,5 @@
 -- The page of a text, and what a run shows of it.
-use Rattle.std.specs.Prelude.{◌≡◌, ℕ, ◌==◌, ◌||◌, Bool, true, false, ⊤, List, [], codes, length, IsUtf8, if◌then◌else◌}
-use Rattle.std.specs.Str.{bytes_eq}
+use Rattle.std.specs.Prelude.{◌≡◌, ℕ, ◌==◌, ◌||◌, Bool, true, false, ⊤, Some, List, [], length, IsUtf8, if◌then◌else◌}
 use Rattle.term_core.specs.Graph.{Grapheme}
 use Rattle.term_core.specs.Cells.{view}
 use Rattle.term_core.specs.declared.rect.Rect.{Rect}
@@ -8,7 +7,8 @@ use Rattle.term_core.specs.Rect.{is_empty}
 use Rattle.term_widgets.specs.Page.{rows_of, any_wider}
 use Rattle.md_events.specs.Blocks.{tree}
 use Rattle.md_events.specs.Built.{built}
-use Rattle.md_text.specs.Look.{Look, default_look}
+use Rattle.md_table.specs.Defaults.{default_sheet}
+use Rattle.md_text.specs.Look.{Look, ansi_look}
 use Rattle.md_text.specs.Layout.{document_lines}
 use Rattle.md_words.specs.declared.job.Job.{Job}
 use Rattle.view_print.specs.Print.{print}
@@ -37,9 +37,10 @@ RefusedBy look refusal.Memory text cut = ⊤
 RefusedBy look refusal.NotUtf8 text cut = IsUtf8 text → ⊥
 RefusedBy look refusal.TooNarrow text cut = IsTooNarrow look text cut
 
--- a job's text is laid out in the default styles, and code whose info text is `ansi` has the colours that it sets itself
+-- a job's text is laid out in the default styles, its tables in the job's width, and code whose info text is `ansi` has the
+-- colours that it sets itself
 abbrev pub job_look : Job → Look
-job_look job = record default_look { known = λ info. bytes_eq info (codes "ansi") }
+job_look job = ansi_look default_sheet (Some job.width)
 
 -- whether a job's view has no cell
 abbrev pub has_no_cell : Job → Bool

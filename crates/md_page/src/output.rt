@@ -28,7 +28,7 @@ pub(crate) fn output(alloc: Global, bytes: &[u8], job: Job) -> Result<Vec<u8>, S
     let Ok(mut buffer) = Buffer::empty(alloc, area) else {
         return Err(Status::Memory);
     };
-    let options = Options::default();
+    let options = Options::default().table_width(job.width);
     let page = match render_view(
         alloc,
         bytes,
