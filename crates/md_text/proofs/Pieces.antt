@@ -1,5 +1,5 @@
 -- The spans that a layout puts are the pieces of its tree.
-use Rattle.std.proofs.Common.{◌≡◌, ℕ, List, [], ◌∷◌, ◌++◌, Bool, true, false, ◌==◌, if◌then◌else◌, Option, None, Some, codes, length, refl, ap, ◌∙◌}
+use Rattle.std.proofs.Common.{◌≡◌, ℕ, List, [], ◌∷◌, ◌++◌, Bool, true, false, ◌&&◌, ◌==◌, if◌then◌else◌, Option, None, Some, codes, length, refl, ap, ◌∙◌}
 use Rattle.std.proofs.lemmas.List.{append-nil}
 use Rattle.std.specs.Str.Lines.{lines}
 use Rattle.term_text.specs.Style.{no_style}
@@ -13,6 +13,7 @@ use Rattle.md_tree.specs.declared.event.Tag.{Tag}
 use Rattle.md_tree.specs.declared.event.Tag.TheVariants as tag
 use Rattle.md_tree.specs.Tree.{Nodes, Empty, Leaf, Branch}
 use Rattle.ansi_text.specs.Ansi.{ansi}
+use Rattle.md_picture.specs.Picture.{TableView}
 use Rattle.md_table.specs.declared.alert.AlertKind.{AlertKind}
 use Rattle.md_table.specs.Defaults.{bold}
 use Rattle.md_table.specs.Sheet.{Sheet}
@@ -21,21 +22,21 @@ use Rattle.md_text.specs.declared.environment.Spacing.{Spacing}
 use Rattle.md_text.specs.declared.environment.Fresh.{Fresh}
 use Rattle.md_text.specs.declared.environment.Fresh.TheVariants as fresh
 use Rattle.md_text.specs.Marks.{Mark, Open, Put, Pad, plain_span, styled_span}
-use Rattle.md_text.specs.declared.environment.Within.{Within}
-use Rattle.md_text.specs.declared.environment.Within.TheVariants.{Lines, Code}
 use Rattle.md_text.specs.Laid.{Laid, nothing_laid, then_laid, each_laid, open_styled, open_laid, gap_laid, join_laid, put_laid, put_all}
 use Rattle.md_text.specs.Look.{Look}
 use Rattle.md_text.specs.Environment.{environment_inside, environment_after}
 use Rattle.md_text.specs.Headings.{level_number, with_blank, heading, attribute_suffix}
+use Rattle.md_text.specs.Spans.{piece, pieces_of, each_pieces}
 use Rattle.md_text.specs.Blocks.{paragraph, enter, leave}
-use Rattle.md_text.specs.Inlines.{begin_line, text_lines, rule, link_spans, line_leaf, leaf_within, leaf}
+use Rattle.md_text.specs.Inlines.{begin_line, text_lines, rule, link_spans, leaf}
 use Rattle.md_text.specs.Code.{info, recognised, code_environment, fence, coloured_line, answered_line, code_lines, apart, code_block}
 use Rattle.md_text.specs.Texts.{texts}
 use Rattle.md_text.specs.Alerts.{alert_of}
 use Rattle.md_text.specs.Containers.{alert_title, alert, quote, list}
 use Rattle.md_text.specs.Markers.{marker}
-use Rattle.md_text.specs.Layout.{layout}
-use Rattle.md_text.specs.Pieces.{puts, piece, pieces_of, each_pieces, line_pieces, line_leaf_pieces, pieces_within, leaf_pieces, fence_pieces, coloured_pieces, code_line_pieces, code_pieces, quote_pieces, pieces_before, pieces_behind, pieces}
+use Rattle.md_text.specs.Tables.{in_item, is_marker, indent, begin_picture_line, picture_line, table, table_of, table_picture}
+use Rattle.md_text.specs.Layout.{branch, layout}
+use Rattle.md_text.specs.Pieces.{puts, line_pieces, leaf_pieces, fence_pieces, coloured_pieces, code_line_pieces, code_pieces, quote_pieces, pieces_before, table_pieces, pieces_behind, branch_pieces, pieces}
 
 pub puts-append : (a b : List Mark) → puts (a ++ b) ≡ puts a ++ puts b
 puts-append [] b = refl
@@ -98,20 +99,14 @@ puts-rule : (env : Environment) (due : Bool) (f : Fresh) (any : Bool) →
 puts-rule env true f any = refl
 puts-rule env false f any = refl
 
-puts-line_leaf : (sheet : Sheet) (env : Environment) (spacing : Spacing) (e : Event) →
-    puts (line_leaf sheet env spacing e).marks ≡ line_leaf_pieces sheet env e
-puts-line_leaf sheet env spacing (event.Text bytes) = puts-text_lines true env spacing (lines bytes)
-puts-line_leaf sheet env spacing (event.Code bytes) =
+puts-leaf : (sheet : Sheet) (env : Environment) (spacing : Spacing) (e : Event) → puts (leaf sheet env spacing e).marks ≡ leaf_pieces sheet env e
+puts-leaf sheet env spacing (event.Text bytes) = puts-text_lines true env spacing (lines bytes)
+puts-leaf sheet env spacing (event.Code bytes) =
     let a = join_laid env spacing in
     puts2 a.marks (put_laid a.after (styled_span bytes sheet.code)).marks [] (piece (styled_span bytes sheet.code))
     (puts-join env spacing.due spacing.fresh spacing.any_line) (puts-put a.after (styled_span bytes sheet.code))
-puts-line_leaf sheet env spacing event.Rule = puts-rule env spacing.due spacing.fresh spacing.any_line
-puts-line_leaf sheet env spacing e = refl
-
-puts-leaf_within : (within : Within) (sheet : Sheet) (env : Environment) (spacing : Spacing) (e : Event) →
-    puts (leaf_within within sheet env spacing e).marks ≡ pieces_within within sheet env e
-puts-leaf_within Lines sheet env spacing e = puts-line_leaf sheet env spacing e
-puts-leaf_within Code sheet env spacing e = refl
+puts-leaf sheet env spacing event.Rule = puts-rule env spacing.due spacing.fresh spacing.any_line
+puts-leaf sheet env spacing e = refl
 
 puts-fence : (sheet : Sheet) (env : Environment) (spacing : Spacing) (bytes : List ℕ) →
     puts (fence sheet env spacing bytes).marks ≡ fence_pieces sheet bytes
@@ -214,17 +209,61 @@ puts-enter sheet env s tag.Item = puts-put-then (record { due = s.due; fresh = f
 puts-enter sheet env s tag.HtmlBlock = puts-paragraph env s.due s.fresh s.any_line
 puts-enter sheet env s tag.DefinitionListTitle = puts-paragraph env s.due s.fresh s.any_line
 puts-enter sheet env s tag.DefinitionListDefinition = puts-paragraph env s.due s.fresh s.any_line
-puts-enter sheet env s tag.TableCell = puts-paragraph env s.due s.fresh s.any_line
 puts-enter sheet env s tag.MetadataBlock = puts-paragraph env s.due s.fresh s.any_line
 puts-enter sheet env s t = refl
 
-puts-leave : (look : Look) (env : Environment) (s : Spacing) (t : Tag) (content : List ℕ) →
-    puts (leave look env s t content).marks ≡ pieces_behind look env t content
-puts-leave look env s (tag.Heading level id classes attrs) content =
-    puts-put-then s (styled_span (attribute_suffix id classes attrs) look.sheet.heading_meta)
-puts-leave look env s (tag.Link dest) content = puts-put_all s (link_spans look.sheet dest)
-puts-leave look env s (tag.CodeBlock kind) content = puts-code_block look env s kind content
-puts-leave look env s t content = refl
+puts-leave : (sheet : Sheet) (s : Spacing) (t : Tag) → puts (leave sheet s t).marks ≡ pieces_behind sheet t
+puts-leave sheet s (tag.Heading level id classes attrs) = puts-put-then s (styled_span (attribute_suffix id classes attrs) sheet.heading_meta)
+puts-leave sheet s (tag.Link dest) = puts-put_all s (link_spans sheet dest)
+puts-leave sheet s t = refl
+
+puts-indent : (env : Environment) (spacing : Spacing) → puts (indent env spacing).marks ≡ []
+puts-indent env spacing = by_test (in_item env)
+  where
+    by_test : (b : Bool) →
+        puts (if b then record { marks = Pad env.item_width ∷ []; after = record { due = spacing.due; fresh = fresh.No; any_line = spacing.any_line } }
+        else nothing_laid spacing).marks
+        ≡ []
+    by_test true = refl
+    by_test false = refl
+
+puts-begin_picture_line : (env : Environment) (spacing : Spacing) → puts (begin_picture_line env spacing).marks ≡ []
+puts-begin_picture_line env spacing = by_test (in_item env && is_marker spacing.fresh)
+  where
+    by_test : (b : Bool) →
+        puts (if b then nothing_laid spacing else then_laid (open_laid env spacing) (λ opened. indent env opened)).marks ≡ []
+    by_test true = refl
+    by_test false = puts-indent env (open_laid env spacing).after
+
+puts-picture_line : (env : Environment) (spacing : Spacing) (line : LineView) → puts (picture_line env spacing line).marks ≡ pieces_of line.spans
+puts-picture_line env spacing line =
+    let a = begin_picture_line env spacing in
+    puts2 a.marks (put_all a.after line.spans).marks [] (pieces_of line.spans) (puts-begin_picture_line env spacing) (puts-put_all a.after line.spans)
+
+puts-table : (look : Look) (env : Environment) (spacing : Spacing) (view : TableView) →
+    puts (table look env spacing view).marks ≡ table_pieces look env view
+puts-table look env spacing view =
+    let a = join_laid env spacing in
+    let b = each_laid (picture_line env) a.after (table_picture look env view) in
+    puts2 a.marks (b.marks ++ []) [] (table_pieces look env view)
+    (puts-join env spacing.due spacing.fresh spacing.any_line)
+    (ap (λ (marks : List Mark). puts marks) (append-nil b.marks)
+    ∙ puts-each (picture_line env) (λ (line : LineView). pieces_of line.spans) (puts-picture_line env) a.after (table_picture look env view))
+
+-- an element puts its pieces if what is inside it puts those of the nodes
+puts-branch : (look : Look) (env : Environment) (s : Spacing) (t : Tag) (nodes : Nodes) (inside : Spacing → Laid) (within : List SpanView) →
+    ((spacing : Spacing) → puts (inside spacing).marks ≡ within) →
+    puts (branch look env s t nodes inside).marks ≡ branch_pieces look env t nodes within
+puts-branch look env s (tag.CodeBlock kind) nodes inside within h = puts-code_block look env s kind (texts nodes)
+puts-branch look env s (tag.Table alignments) nodes inside within h = puts-table look env s (table_of look.sheet env alignments nodes)
+puts-branch look env s t nodes inside within h =
+    let a = enter look.sheet env s t in
+    let b = inside a.after in
+    let c = leave look.sheet b.after t in
+    let first = pieces_before look.sheet env t in
+    let last = pieces_behind look.sheet t in
+    puts2 a.marks (b.marks ++ c.marks) first (within ++ last) (puts-enter look.sheet env s t)
+    (puts2 b.marks c.marks within last (h a.after) (puts-leave look.sheet b.after t))
 
 -- the spans that a layout puts are the pieces of its tree, good or not
 pub puts-layout : (look : Look) (t : Nodes) (env : Environment) (spacing : Spacing) → puts (layout look env spacing t).marks ≡ pieces look env t
@@ -232,18 +271,12 @@ puts-layout look Empty env spacing = refl
 puts-layout look (Leaf e rest) env spacing =
     let a = leaf look.sheet env spacing e in
     puts2 a.marks (layout look env a.after rest).marks (leaf_pieces look.sheet env e) (pieces look env rest)
-    (puts-leaf_within env.within look.sheet env spacing e) (puts-layout look rest env a.after)
+    (puts-leaf look.sheet env spacing e) (puts-layout look rest env a.after)
 puts-layout look (Branch t inside rest) env spacing =
     let env_in = environment_inside look.sheet env t inside in
     let env_after = environment_after env t in
-    let a = enter look.sheet env spacing t in
-    let b = layout look env_in a.after inside in
-    let c = leave look env b.after t (texts inside) in
-    let d = layout look env_after c.after rest in
-    let first = pieces_before look.sheet env t in
     let within = pieces look env_in inside in
-    let last = pieces_behind look env t (texts inside) in
-    puts2 (a.marks ++ (b.marks ++ c.marks)) d.marks (first ++ (within ++ last)) (pieces look env_after rest)
-    (puts2 a.marks (b.marks ++ c.marks) first (within ++ last) (puts-enter look.sheet env spacing t)
-    (puts2 b.marks c.marks within last (puts-layout look inside env_in a.after) (puts-leave look env b.after t (texts inside))))
-    (puts-layout look rest env_after c.after)
+    let a = branch look env spacing t inside (λ entered. layout look env_in entered inside) in
+    puts2 a.marks (layout look env_after a.after rest).marks (branch_pieces look env t inside within) (pieces look env_after rest)
+    (puts-branch look env spacing t inside (λ entered. layout look env_in entered inside) within (λ entered. puts-layout look inside env_in entered))
+    (puts-layout look rest env_after a.after)

@@ -1,6 +1,7 @@
 -- Blocks begin lines of their own.
-use Rattle.std.proofs.Common.{◌≡◌, ◌==◌, if◌then◌else◌, ℕ, None, Some, List, [], ◌∷◌, ◌++◌, Bool, true, false, not, ◌&&◌, length, refl, ap}
+use Rattle.std.proofs.Common.{◌≡◌, ◌==◌, if◌then◌else◌, ℕ, None, Some, List, [], ◌∷◌, ◌++◌, Bool, true, false, not, ◌&&◌, length, refl, ap, ◌∙◌}
 use Rattle.std.specs.Str.Lines.{lines}
+use Rattle.term_text.specs.Text.{LineView}
 use Rattle.md_tree.specs.declared.event.CodeBlockKind.{CodeBlockKind}
 use Rattle.md_tree.specs.declared.event.Event.{Event}
 use Rattle.md_tree.specs.declared.event.Event.TheVariants as event
@@ -12,59 +13,70 @@ use Rattle.md_tree.specs.declared.place.Holds.TheVariants as level
 use Rattle.md_tree.specs.declared.place.Numbers.{Numbers}
 use Rattle.md_tree.specs.declared.place.Place.{Place}
 use Rattle.md_tree.specs.Tree.{Nodes, Empty, Leaf, Branch}
-use Rattle.md_tree.specs.Good.{good, good_at, may_hold, numbers_from, holds_items, holds_inlines, holds_text, holds_soft_break, place_inside, place_after, place_after_leaf, document_place}
+use Rattle.md_tree.specs.Good.{good, good_at, may_stand, may_hold, numbers_from, holds_items, holds_head, holds_rows, holds_cells, holds_inlines, holds_text, holds_soft_break, place_inside, place_after, place_after_leaf, document_place}
 use Rattle.md_tree.proofs.Nodes.{and_left, and_right, and_false}
 use Rattle.ansi_text.specs.Ansi.{ansi}
+use Rattle.md_picture.specs.Picture.{TableView}
 use Rattle.md_table.specs.declared.alert.AlertKind.{AlertKind}
 use Rattle.md_table.specs.Sheet.{Sheet}
 use Rattle.md_text.specs.declared.environment.Environment.{Environment}
 use Rattle.md_text.specs.declared.environment.Spacing.{Spacing}
 use Rattle.md_text.specs.declared.environment.Fresh.{Fresh}
 use Rattle.md_text.specs.declared.environment.Fresh.TheVariants as fresh
-use Rattle.md_text.specs.declared.environment.Within.{Within}
-use Rattle.md_text.specs.declared.environment.Within.TheVariants.{Lines, Code}
 use Rattle.md_text.specs.Marks.{Mark, Open, Put, Pad, plain_span, begins_line}
-use Rattle.md_text.specs.Laid.{Laid, nothing_laid, then_laid, each_laid, open_laid, gap_laid, join_laid, put_laid}
+use Rattle.md_text.specs.Laid.{Laid, nothing_laid, then_laid, each_laid, open_laid, gap_laid, join_laid, put_laid, put_all}
 use Rattle.md_text.specs.Look.{Look}
 use Rattle.md_text.specs.Environment.{first_environment, first_spacing, environment_inside, environment_after}
 use Rattle.md_text.specs.Headings.{heading}
 use Rattle.md_text.specs.Texts.{texts}
 use Rattle.md_text.specs.Alerts.{alert_of}
 use Rattle.md_text.specs.Containers.{alert, list}
-use Rattle.md_text.specs.Inlines.{text_lines, line_leaf, leaf_within}
+use Rattle.md_text.specs.Inlines.{text_lines, rule, leaf}
 use Rattle.md_text.specs.Code.{info, recognised, code_environment, fence, coloured_line, answered_line, code_lines, code_block}
 use Rattle.md_text.specs.Blocks.{is_fresh, paragraph, enter, leave}
-use Rattle.md_text.specs.Layout.{layout, document_layout}
-use Rattle.md_text.proofs.CodeInside.{layout-code}
+use Rattle.md_text.specs.Tables.{in_item, indent, begin_picture_line, picture_line, table, table_of, table_picture}
+use Rattle.md_text.specs.Layout.{branch, layout, document_layout}
 
--- the levels outside lines and lists: they hold neither inlines nor texts nor items
+-- the levels outside lines, lists and tables: they hold blocks, or the entries of a definition list
 abbrev pub outside_lines : Holds → Bool
 outside_lines level.Blocks = true
 outside_lines level.Entries = true
-outside_lines level.Head = true
-outside_lines level.Rows = true
-outside_lines level.Cells = true
 outside_lines _ = false
 
+-- what neither blocks nor entries hold
+no_other : (holds : Holds → Bool) → holds level.Blocks ≡ false → holds level.Entries ≡ false →
+    (h : Holds) → outside_lines h ≡ true → holds h ≡ true → ⊥
+no_other holds b e level.Blocks o i = cc
+no_other holds b e level.Entries o i = cc
+no_other holds b e h o i = cc
+
 no_inlines : (h : Holds) → outside_lines h ≡ true → holds_inlines h ≡ true → ⊥
-no_inlines level.Blocks o i = cc
-no_inlines h o i = cc
+no_inlines = no_other holds_inlines refl refl
 
 no_text : (h : Holds) → outside_lines h ≡ true → holds_text h ≡ true → ⊥
-no_text level.Blocks o i = cc
-no_text h o i = cc
+no_text = no_other holds_text refl refl
 
 no_soft_break : (h : Holds) → outside_lines h ≡ true → holds_soft_break h ≡ true → ⊥
-no_soft_break level.Blocks o i = cc
-no_soft_break h o i = cc
+no_soft_break = no_other holds_soft_break refl refl
 
 no_items : (h : Holds) → outside_lines h ≡ true → holds_items h ≡ true → ⊥
-no_items level.Blocks o i = cc
-no_items h o i = cc
+no_items = no_other holds_items refl refl
+
+no_head : (h : Holds) → outside_lines h ≡ true → holds_head h ≡ true → ⊥
+no_head = no_other holds_head refl refl
+
+no_rows : (h : Holds) → outside_lines h ≡ true → holds_rows h ≡ true → ⊥
+no_rows = no_other holds_rows refl refl
+
+no_cells : (h : Holds) → outside_lines h ≡ true → holds_cells h ≡ true → ⊥
+no_cells = no_other holds_cells refl refl
 
 -- where a paragraph begins a line
 abbrev pub Ready : Spacing → Type 0
 Ready spacing = (is_fresh spacing.fresh && not spacing.due) ≡ false
+
+due-ready : (spacing : Spacing) → spacing.due ≡ true → Ready spacing
+due-ready spacing h = ap (λ (due : Bool). is_fresh spacing.fresh && not due) h ∙ and_false (is_fresh spacing.fresh)
 
 -- no mark, or first an Open, and behind them a paragraph begins a line
 pub record Begins (laid : Laid) : Type 0 where
@@ -82,11 +94,17 @@ abbrev opens : List Mark → Bool
 opens (Open quotes style ∷ marks) = true
 opens _ = false
 
-opens-append : (a b c : List Mark) → opens a ≡ true → begins_line ((a ++ b) ++ c) ≡ true
-opens-append [] b c h = cc
-opens-append (Open quotes style ∷ a) b c h = refl
-opens-append (Put span ∷ a) b c h = cc
-opens-append (Pad blanks ∷ a) b c h = cc
+opens-begins : (a : List Mark) → opens a ≡ true → begins_line a ≡ true
+opens-begins [] h = cc
+opens-begins (Open quotes style ∷ a) h = refl
+opens-begins (Put span ∷ a) h = cc
+opens-begins (Pad blanks ∷ a) h = cc
+
+opens-append : (a b : List Mark) → opens a ≡ true → opens (a ++ b) ≡ true
+opens-append [] b h = cc
+opens-append (Open quotes style ∷ a) b h = refl
+opens-append (Put span ∷ a) b h = cc
+opens-append (Pad blanks ∷ a) b h = cc
 
 paragraph-opens : (env : Environment) (due : Bool) (f : Fresh) (any : Bool) → Ready (record { due = due; fresh = f; any_line = any }) →
     opens (paragraph env (record { due = due; fresh = f; any_line = any })).marks ≡ true
@@ -149,41 +167,36 @@ code_block-begins look env due f false kind content =
     (starts-append b.marks c.marks (code_lines-begin look env_in a.after kind (lines content)) (fence-begins look.sheet env_in b.after [])))
     refl
 
--- what is laid out inside an element
-abbrev within : Look → Environment → Spacing → Tag → Nodes → Laid
-within look env s t inside = layout look (environment_inside look.sheet env t inside) (enter look.sheet env s t).after inside
+-- a line of a picture opens a line where no marker is fresh
+begin_picture_line-opens : (env : Environment) (due any : Bool) →
+    opens (begin_picture_line env (record { due = due; fresh = fresh.No; any_line = any })).marks ≡ true
+begin_picture_line-opens env due any =
+    let s : Spacing = record { due = due; fresh = fresh.No; any_line = any } in
+    ap (λ (on_its_line : Bool). opens (if on_its_line then nothing_laid s else then_laid (open_laid env s) (λ opened. indent env opened)).marks)
+    (and_false (in_item env))
 
--- the spacing state behind an element
-abbrev behind : Look → Environment → Spacing → Tag → Nodes → Spacing
-behind look env s t inside = (leave look env (within look env s t inside).after t (texts inside)).after
+picture-begins : (env : Environment) (due any : Bool) (all : List LineView) →
+    begins_line (each_laid (picture_line env) (record { due = due; fresh = fresh.No; any_line = any }) all).marks ≡ true
+picture-begins env due any [] = refl
+picture-begins env due any (line ∷ others) =
+    let a = begin_picture_line env (record { due = due; fresh = fresh.No; any_line = any }) in
+    let b = put_all a.after line.spans in
+    let c = each_laid (picture_line env) b.after others in
+    opens-begins ((a.marks ++ b.marks) ++ c.marks)
+    (opens-append (a.marks ++ b.marks) c.marks (opens-append a.marks b.marks (begin_picture_line-opens env due any)))
 
--- an element that begins with an Open, and then nodes that begin lines
-opening-begins : (look : Look) (env : Environment) (s : Spacing) (t : Tag) (inside rest : Nodes) →
-    opens (enter look.sheet env s t).marks ≡ true →
-    Begins (layout look (environment_after env t) (behind look env s t inside) rest) → Begins (layout look env s (Branch t inside rest))
-opening-begins look env s t inside rest h next =
-    let a = enter look.sheet env s t in
-    let b = within look env s t inside in
-    let c = leave look env b.after t (texts inside) in
+-- a table begins a line by the one that is due, or else by its first: where none is due no marker is fresh
+table-begins : (look : Look) (env : Environment) (due : Bool) (f : Fresh) (any : Bool) (view : TableView) →
+    Ready (record { due = due; fresh = f; any_line = any }) → Begins (table look env (record { due = due; fresh = f; any_line = any }) view)
+table-begins look env true f any view r = record { starts = refl; ready = and_false _ }
+table-begins look env false fresh.No any view r =
+    let b = each_laid (picture_line env) (record { due = false; fresh = fresh.No; any_line = any }) (table_picture look env view) in
     record {
-      starts = opens-append a.marks (b.marks ++ c.marks) (layout look (environment_after env t) c.after rest).marks h;
-      ready = next.ready;
+      starts = starts-append b.marks [] (picture-begins env false any (table_picture look env view)) refl;
+      ready = and_false _;
     }
-
--- an element whose parts begin lines, and then nodes that do
-parts-begin : (look : Look) (env : Environment) (s : Spacing) (t : Tag) (inside rest : Nodes) →
-    begins_line (enter look.sheet env s t).marks ≡ true → begins_line (within look env s t inside).marks ≡ true →
-    begins_line (leave look env (within look env s t inside).after t (texts inside)).marks ≡ true →
-    Begins (layout look (environment_after env t) (behind look env s t inside) rest) → Begins (layout look env s (Branch t inside rest))
-parts-begin look env s t inside rest h i k next =
-    let a = enter look.sheet env s t in
-    let b = within look env s t inside in
-    let c = leave look env b.after t (texts inside) in
-    record {
-      starts = starts-append (a.marks ++ (b.marks ++ c.marks)) (layout look (environment_after env t) c.after rest).marks
-          (starts-append a.marks (b.marks ++ c.marks) h (starts-append b.marks c.marks i k)) next.starts;
-      ready = next.ready;
-    }
+table-begins look env false fresh.Marker any view r = cc
+table-begins look env false fresh.Prefix any view r = cc
 
 alert-opens : (sheet : Sheet) (env : Environment) (due : Bool) (f : Fresh) (any : Bool) (kind : AlertKind) →
     opens (alert sheet env (record { due = due; fresh = f; any_line = any }) kind).marks ≡ true
@@ -229,111 +242,126 @@ items-begin look (Branch tag.Item inside rest) env s numbers g = refl
 items-begin look (Branch t inside rest) env s numbers g = cc
 
 -- a rule begins a line, and a line is due behind it
-rule-begins : (w : Within) (look : Look) (env : Environment) (due : Bool) (f : Fresh) (any : Bool) (rest : Nodes) →
-    Ready (record { due = due; fresh = f; any_line = any }) →
-    ((s : Spacing) → Ready s → Begins (layout look env s rest)) →
-    Begins (then_laid (leaf_within w look.sheet env (record { due = due; fresh = f; any_line = any }) event.Rule) (λ behind. layout look env behind rest))
-rule-begins Lines look env true f any rest r next =
-    let after : Begins (layout look env (record { due = true; fresh = fresh.No; any_line = true }) rest) = next (record { due = true; fresh = fresh.No; any_line = true }) refl in
-    record { starts = refl; ready = after.ready }
-rule-begins Lines look env false f any rest r next =
-    let after : Begins (layout look env (record { due = true; fresh = fresh.No; any_line = true }) rest) = next (record { due = true; fresh = fresh.No; any_line = true }) refl in
-    record { starts = refl; ready = after.ready }
-rule-begins Code look env due f any rest r next = next (record { due = due; fresh = f; any_line = any }) r
+rule-begins : (env : Environment) (due : Bool) (f : Fresh) (any : Bool) → Begins (rule env (record { due = due; fresh = f; any_line = any }))
+rule-begins env true f any = record { starts = refl; ready = refl }
+rule-begins env false f any = record { starts = refl; ready = refl }
 
--- a leaf that is nothing, and then nodes that begin lines
-leaf-begins : (w : Within) (look : Look) (env : Environment) (s : Spacing) (e : Event) (rest : Nodes) →
-    line_leaf look.sheet env s e ≡ nothing_laid s → Begins (layout look env s rest) →
-    Begins (then_laid (leaf_within w look.sheet env s e) (λ behind. layout look env behind rest))
-leaf-begins Lines look env s e rest h next = rw h next
-leaf-begins Code look env s e rest h next = next
+leaf-begins : (sheet : Sheet) (e : Event) (env : Environment) (s : Spacing) (p : Place) → outside_lines p.holds ≡ true →
+    may_hold p e ≡ true → Ready s → Begins (leaf sheet env s e)
+leaf-begins sheet (event.Start t) env s p o m r = cc
+leaf-begins sheet (event.End e) env s p o m r = cc
+leaf-begins sheet (event.Text bytes) env s p o m r = absurd (no_text p.holds o m)
+leaf-begins sheet (event.Code bytes) env s p o m r = absurd (no_inlines p.holds o m)
+leaf-begins sheet event.SoftBreak env s p o m r = absurd (no_soft_break p.holds o m)
+leaf-begins sheet event.HardBreak env s p o m r = absurd (no_inlines p.holds o m)
+leaf-begins sheet (event.TaskListMarker is_done) env s p o m r = absurd (no_inlines p.holds o (and_left _ _ m))
+leaf-begins sheet event.Rule env s p o m r = rule-begins env s.due s.fresh s.any_line
+leaf-begins sheet e env s p o m r = record { starts = refl; ready = r }
+
+-- what is laid out inside an element, and the element itself
+abbrev within : Look → Environment → Tag → Nodes → Spacing → Laid
+within look env t inside spacing = layout look (environment_inside look.sheet env t inside) spacing inside
+
+abbrev element : Look → Environment → Spacing → Tag → Nodes → Laid
+element look env s t inside = branch look env s t inside (within look env t inside)
+
+-- an element that begins with an Open, and behind which a line is due
+opening-begins : (look : Look) (env : Environment) (s : Spacing) (t : Tag) (inside : Nodes) → opens (enter look.sheet env s t).marks ≡ true →
+    ((spacing : Spacing) → (leave look.sheet spacing t).after.due ≡ true) → Begins (element look env s t inside)
+opening-begins look env s (tag.CodeBlock kind) inside h k = cc
+opening-begins look env s (tag.Table alignments) inside h k = cc
+opening-begins look env s t inside h k =
+    let a = enter look.sheet env s t in
+    let b = within look env t inside a.after in
+    let c = leave look.sheet b.after t in
+    record {
+      starts = opens-begins (a.marks ++ (b.marks ++ c.marks)) (opens-append a.marks (b.marks ++ c.marks) h);
+      ready = due-ready c.after (k b.after);
+    }
+
+-- parts that begin lines, with nothing behind them
+parts-begin : (a b : List Mark) → begins_line a ≡ true → begins_line b ≡ true → begins_line (a ++ (b ++ [])) ≡ true
+parts-begin a b h k = starts-append a (b ++ []) h (starts-append b [] k refl)
+
+-- an element outside lines begins lines if good nodes inside it do
+element-begins : (look : Look) (t : Tag) (inside : Nodes) (env : Environment) (s : Spacing) (p : Place) → outside_lines p.holds ≡ true →
+    may_stand p t ≡ true → good_at (place_inside p t) inside ≡ true → Ready s →
+    ((spacing : Spacing) → outside_lines (place_inside p t).holds ≡ true → Ready spacing → Begins (within look env t inside spacing)) →
+    Begins (element look env s t inside)
+element-begins look tag.Paragraph inside env s p o m g r begins =
+    opening-begins look env s tag.Paragraph inside (paragraph-opens env s.due s.fresh s.any_line r) (λ _. refl)
+element-begins look (tag.Heading h id classes attrs) inside env s p o m g r begins =
+    opening-begins look env s (tag.Heading h id classes attrs) inside (heading-opens look.sheet env s.due s.fresh s.any_line h) (λ _. refl)
+element-begins look (tag.BlockQuote (Some kind)) inside env s p o m g r begins =
+    opening-begins look env s (tag.BlockQuote (Some kind)) inside (alert-opens look.sheet env s.due s.fresh s.any_line (alert_of kind)) (λ _. refl)
+element-begins look (tag.BlockQuote None) inside env s p o m g r begins =
+    let a = join_laid env s in
+    let first = begins a.after refl (join-ready env s.due s.fresh s.any_line r) in
+    record {
+      starts = parts-begin a.marks (within look env (tag.BlockQuote None) inside a.after).marks (join-begins env s.due s.fresh s.any_line) first.starts;
+      ready = and_false _;
+    }
+element-begins look (tag.CodeBlock kind) inside env s p o m g r begins =
+    record { starts = code_block-begins look env s.due s.fresh s.any_line kind (texts inside); ready = and_false _ }
+element-begins look tag.HtmlBlock inside env s p o m g r begins =
+    opening-begins look env s tag.HtmlBlock inside (paragraph-opens env s.due s.fresh s.any_line r) (λ _. refl)
+element-begins look (tag.List start) inside env s p o m g r begins =
+    let a = list env s in
+    record {
+      starts = parts-begin a.marks (within look env (tag.List start) inside a.after).marks (list-begins env s)
+          (items-begin look inside (environment_inside look.sheet env (tag.List start) inside) a.after (numbers_from start) g);
+      ready = and_false _;
+    }
+element-begins look tag.Item inside env s p o m g r begins = absurd (no_items p.holds o (and_left _ _ m))
+element-begins look (tag.FootnoteDefinition label) inside env s p o m g r begins =
+    let first = begins s refl r in
+    record { starts = parts-begin [] (layout look env s inside).marks refl first.starts; ready = first.ready }
+element-begins look tag.DefinitionList inside env s p o m g r begins =
+    let first = begins s refl r in
+    record { starts = parts-begin [] (layout look env s inside).marks refl first.starts; ready = first.ready }
+element-begins look tag.DefinitionListTitle inside env s p o m g r begins =
+    opening-begins look env s tag.DefinitionListTitle inside (paragraph-opens env s.due s.fresh s.any_line r) (λ _. refl)
+element-begins look tag.DefinitionListDefinition inside env s p o m g r begins =
+    opening-begins look env s tag.DefinitionListDefinition inside (paragraph-opens env s.due s.fresh s.any_line r) (λ _. refl)
+element-begins look (tag.Table alignments) inside env s p o m g r begins =
+    table-begins look env s.due s.fresh s.any_line (table_of look.sheet env alignments inside) r
+element-begins look tag.TableHead inside env s p o m g r begins = absurd (no_head p.holds o m)
+element-begins look tag.TableRow inside env s p o m g r begins = absurd (no_rows p.holds o m)
+element-begins look tag.TableCell inside env s p o m g r begins = absurd (no_cells p.holds o m)
+element-begins look tag.MetadataBlock inside env s p o m g r begins =
+    opening-begins look env s tag.MetadataBlock inside (paragraph-opens env s.due s.fresh s.any_line r) (λ _. refl)
+element-begins look (tag.Link dest) inside env s p o m g r begins = absurd (no_inlines p.holds o (and_left _ _ m))
+element-begins look t inside env s p o m g r begins = absurd (no_inlines p.holds o m)
+
+-- the place behind an element outside lines is outside lines
+outside-after : (p : Place) (t : Tag) → outside_lines p.holds ≡ true → may_stand p t ≡ true → outside_lines (place_after p t).holds ≡ true
+outside-after p tag.Item o m = o
+outside-after p tag.TableHead o m = absurd (no_head p.holds o m)
+outside-after p t o m = o
+
+-- a layout that begins lines, and then one that does from the spacing state behind it
+then-begins : (first : Laid) (next : Spacing → Laid) → Begins first → Begins (next first.after) → Begins (then_laid first next)
+then-begins first next h k = record { starts = starts-append first.marks (next first.after).marks h.starts k.starts; ready = k.ready }
 
 -- good nodes outside lines begin lines
 pub layout-begins : (look : Look) (t : Nodes) (env : Environment) (s : Spacing) (p : Place) → outside_lines p.holds ≡ true → good_at p t ≡ true →
     Ready s → Begins (layout look env s t)
 layout-begins look Empty env s p o g r = record { starts = refl; ready = r }
-layout-begins look (Leaf (event.Start t) rest) env s p o g r = cc
-layout-begins look (Leaf (event.End e) rest) env s p o g r = cc
-layout-begins look (Leaf (event.Text bytes) rest) env s p o g r = absurd (no_text p.holds o (and_left _ _ g))
-layout-begins look (Leaf (event.Code bytes) rest) env s p o g r = absurd (no_inlines p.holds o (and_left _ _ g))
-layout-begins look (Leaf event.SoftBreak rest) env s p o g r = absurd (no_soft_break p.holds o (and_left _ _ g))
-layout-begins look (Leaf event.HardBreak rest) env s p o g r = absurd (no_inlines p.holds o (and_left _ _ g))
-layout-begins look (Leaf (event.TaskListMarker is_done) rest) env s p o g r = absurd (no_inlines p.holds o (and_left _ _ (and_left _ _ g)))
-layout-begins look (Leaf event.Rule rest) env s p o g r =
-    rule-begins env.within look env s.due s.fresh s.any_line rest r
-    (λ spacing ready. layout-begins look rest env spacing (place_after_leaf p) o (and_right _ _ g) ready)
 layout-begins look (Leaf e rest) env s p o g r =
-    leaf-begins env.within look env s e rest refl (layout-begins look rest env s (place_after_leaf p) o (and_right _ _ g) r)
-layout-begins look (Branch tag.Emphasis inside rest) env s p o g r = absurd (no_inlines p.holds o (and_left _ _ g))
-layout-begins look (Branch tag.Strong inside rest) env s p o g r = absurd (no_inlines p.holds o (and_left _ _ g))
-layout-begins look (Branch tag.Strikethrough inside rest) env s p o g r = absurd (no_inlines p.holds o (and_left _ _ g))
-layout-begins look (Branch tag.Superscript inside rest) env s p o g r = absurd (no_inlines p.holds o (and_left _ _ g))
-layout-begins look (Branch tag.Subscript inside rest) env s p o g r = absurd (no_inlines p.holds o (and_left _ _ g))
-layout-begins look (Branch (tag.Image dest) inside rest) env s p o g r = absurd (no_inlines p.holds o (and_left _ _ g))
-layout-begins look (Branch (tag.Link dest) inside rest) env s p o g r = absurd (no_inlines p.holds o (and_left _ _ (and_left _ _ g)))
-layout-begins look (Branch tag.Paragraph inside rest) env s p o g r =
-    opening-begins look env s tag.Paragraph inside rest (paragraph-opens env s.due s.fresh s.any_line r)
-    (layout-begins look rest env (behind look env s tag.Paragraph inside) (place_after p tag.Paragraph) o (and_right _ _ (and_right _ _ g)) (and_false _))
-layout-begins look (Branch (tag.Heading h id classes attrs) inside rest) env s p o g r =
-    opening-begins look env s (tag.Heading h id classes attrs) inside rest (heading-opens look.sheet env s.due s.fresh s.any_line h)
-    (layout-begins look rest env (behind look env s (tag.Heading h id classes attrs) inside) (place_after p (tag.Heading h id classes attrs)) o (and_right _ _ (and_right _ _ g)) (and_false _))
-layout-begins look (Branch (tag.CodeBlock kind) inside rest) env s p o g r =
-    let b = within look env s (tag.CodeBlock kind) inside in
-    parts-begin look env s (tag.CodeBlock kind) inside rest refl
-    (ap (λ (laid : Laid). begins_line laid.marks) (layout-code look inside env s (and_left _ _ (and_right _ _ g))))
-    (code_block-begins look env b.after.due b.after.fresh b.after.any_line kind (texts inside))
-    (layout-begins look rest env (behind look env s (tag.CodeBlock kind) inside) (place_after p (tag.CodeBlock kind)) o (and_right _ _ (and_right _ _ g)) (and_false _))
-layout-begins look (Branch tag.HtmlBlock inside rest) env s p o g r =
-    opening-begins look env s tag.HtmlBlock inside rest (paragraph-opens env s.due s.fresh s.any_line r)
-    (layout-begins look rest env (behind look env s tag.HtmlBlock inside) (place_after p tag.HtmlBlock) o (and_right _ _ (and_right _ _ g)) (and_false _))
-layout-begins look (Branch tag.Item inside rest) env s p o g r = absurd (no_items p.holds o (and_left _ _ (and_left _ _ g)))
-layout-begins look (Branch tag.DefinitionListTitle inside rest) env s p o g r =
-    opening-begins look env s tag.DefinitionListTitle inside rest (paragraph-opens env s.due s.fresh s.any_line r)
-    (layout-begins look rest env (behind look env s tag.DefinitionListTitle inside) (place_after p tag.DefinitionListTitle) o (and_right _ _ (and_right _ _ g)) (and_false _))
-layout-begins look (Branch tag.DefinitionListDefinition inside rest) env s p o g r =
-    opening-begins look env s tag.DefinitionListDefinition inside rest (paragraph-opens env s.due s.fresh s.any_line r)
-    (layout-begins look rest env (behind look env s tag.DefinitionListDefinition inside) (place_after p tag.DefinitionListDefinition) o (and_right _ _ (and_right _ _ g)) (and_false _))
-layout-begins look (Branch tag.TableCell inside rest) env s p o g r =
-    opening-begins look env s tag.TableCell inside rest (paragraph-opens env s.due s.fresh s.any_line r)
-    (layout-begins look rest env (behind look env s tag.TableCell inside) (place_after p tag.TableCell) o (and_right _ _ (and_right _ _ g)) (and_false _))
-layout-begins look (Branch tag.MetadataBlock inside rest) env s p o g r =
-    opening-begins look env s tag.MetadataBlock inside rest (paragraph-opens env s.due s.fresh s.any_line r)
-    (layout-begins look rest env (behind look env s tag.MetadataBlock inside) (place_after p tag.MetadataBlock) o (and_right _ _ (and_right _ _ g)) (and_false _))
-layout-begins look (Branch (tag.BlockQuote (Some kind)) inside rest) env s p o g r =
-    opening-begins look env s (tag.BlockQuote (Some kind)) inside rest (alert-opens look.sheet env s.due s.fresh s.any_line (alert_of kind))
-    (layout-begins look rest env (behind look env s (tag.BlockQuote (Some kind)) inside) (place_after p (tag.BlockQuote (Some kind))) o (and_right _ _ (and_right _ _ g)) (and_false _))
-layout-begins look (Branch (tag.BlockQuote None) inside rest) env s p o g r =
-    let env_in = environment_inside look.sheet env (tag.BlockQuote None) inside in
-    let joined = (join_laid env s).after in
-    let first : Begins (layout look env_in joined inside) =
-    layout-begins look inside env_in joined (place_inside p (tag.BlockQuote None)) refl (and_left _ _ (and_right _ _ g)) (join-ready env s.due s.fresh s.any_line r) in
-    parts-begin look env s (tag.BlockQuote None) inside rest (join-begins env s.due s.fresh s.any_line) first.starts refl
-    (layout-begins look rest env (behind look env s (tag.BlockQuote None) inside) (place_after p (tag.BlockQuote None)) o (and_right _ _ (and_right _ _ g)) (and_false _))
-layout-begins look (Branch (tag.List start) inside rest) env s p o g r =
-    parts-begin look env s (tag.List start) inside rest (list-begins env s)
-    (items-begin look inside (environment_inside look.sheet env (tag.List start) inside) (list env s).after (numbers_from start) (and_left _ _ (and_right _ _ g)))
-    refl
-    (layout-begins look rest env (behind look env s (tag.List start) inside) (place_after p (tag.List start)) o (and_right _ _ (and_right _ _ g)) (and_false _))
-layout-begins look (Branch (tag.FootnoteDefinition label) inside rest) env s p o g r =
-    let first : Begins (layout look env s inside) = layout-begins look inside env s (place_inside p (tag.FootnoteDefinition label)) refl (and_left _ _ (and_right _ _ g)) r in
-    parts-begin look env s (tag.FootnoteDefinition label) inside rest refl first.starts refl
-    (layout-begins look rest env (layout look env s inside).after (place_after p (tag.FootnoteDefinition label)) o (and_right _ _ (and_right _ _ g)) first.ready)
-layout-begins look (Branch tag.DefinitionList inside rest) env s p o g r =
-    let first : Begins (layout look env s inside) = layout-begins look inside env s (place_inside p tag.DefinitionList) refl (and_left _ _ (and_right _ _ g)) r in
-    parts-begin look env s tag.DefinitionList inside rest refl first.starts refl
-    (layout-begins look rest env (layout look env s inside).after (place_after p tag.DefinitionList) o (and_right _ _ (and_right _ _ g)) first.ready)
-layout-begins look (Branch (tag.Table alignments) inside rest) env s p o g r =
-    let first : Begins (layout look env s inside) = layout-begins look inside env s (place_inside p (tag.Table alignments)) refl (and_left _ _ (and_right _ _ g)) r in
-    parts-begin look env s (tag.Table alignments) inside rest refl first.starts refl
-    (layout-begins look rest env (layout look env s inside).after (place_after p (tag.Table alignments)) o (and_right _ _ (and_right _ _ g)) first.ready)
-layout-begins look (Branch tag.TableHead inside rest) env s p o g r =
-    let first : Begins (layout look env s inside) = layout-begins look inside env s (place_inside p tag.TableHead) refl (and_left _ _ (and_right _ _ g)) r in
-    parts-begin look env s tag.TableHead inside rest refl first.starts refl
-    (layout-begins look rest env (layout look env s inside).after (place_after p tag.TableHead) refl (and_right _ _ (and_right _ _ g)) first.ready)
-layout-begins look (Branch tag.TableRow inside rest) env s p o g r =
-    let first : Begins (layout look env s inside) = layout-begins look inside env s (place_inside p tag.TableRow) refl (and_left _ _ (and_right _ _ g)) r in
-    parts-begin look env s tag.TableRow inside rest refl first.starts refl
-    (layout-begins look rest env (layout look env s inside).after (place_after p tag.TableRow) o (and_right _ _ (and_right _ _ g)) first.ready)
+    let a = leaf look.sheet env s e in
+    let first = leaf-begins look.sheet e env s p o (and_left _ _ g) r in
+    then-begins a (λ behind. layout look env behind rest) first
+    (layout-begins look rest env a.after (place_after_leaf p) o (and_right _ _ g) first.ready)
+layout-begins look (Branch t inside rest) env s p o g r =
+    let m = and_left _ _ g in
+    let good_inside = and_left _ _ (and_right _ _ g) in
+    let env_in = environment_inside look.sheet env t inside in
+    let env_after = environment_after env t in
+    let a = element look env s t inside in
+    let first = element-begins look t inside env s p o m good_inside r
+    (λ entered outside ready. layout-begins look inside env_in entered (place_inside p t) outside good_inside ready) in
+    then-begins a (λ behind. layout look env_after behind rest) first
+    (layout-begins look rest env_after a.after (place_after p t) (outside-after p t o m) (and_right _ _ (and_right _ _ g)) first.ready)
 
 -- a document's first mark, if there is one, begins a line
 pub document-begins : (look : Look) (t : Nodes) → good t ≡ true → begins_line (document_layout look t).marks ≡ true

@@ -13,9 +13,9 @@ ghost use Rattle.md_text.specs.Laid.{then_laid};
 ghost use Rattle.md_text.specs.Layout.{layout, document_layout};
 ghost use Rattle.md_text.specs.Pieces.{puts, document_pieces};
 
-/// The spans that a good tree's layout puts are the tree's pieces, each whole, once and in order.
+/// The spans that a tree's layout puts are the tree's pieces, each whole, once and in order, whether the tree is good or not.
 pub fn puts_are_the_pieces()
-    ensures { (look : Look) (t : Nodes) → good t ≡ true → puts (document_layout look t).marks ≡ document_pieces look t }
+    ensures { (look : Look) (t : Nodes) → puts (document_layout look t).marks ≡ document_pieces look t }
 {}
 
 /// The first mark of a good tree's layout, if there is one, begins a line.

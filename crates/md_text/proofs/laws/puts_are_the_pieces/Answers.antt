@@ -3,4 +3,4 @@ use Rattle.md_text.proofs.Pieces.{puts-layout}
 use Rattle.md_text.proofs.laws.puts_are_the_pieces.Goals as goal
 
 pub returns : goal.returns
-returns c look t g = puts-layout look t first_environment first_spacing
+returns c look t = puts-layout look t first_environment first_spacing
