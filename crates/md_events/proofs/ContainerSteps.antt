@@ -1,5 +1,5 @@
 -- What the writers of quotes, lists and items keep.
-use Rattle.std.proofs.Common.{List, [], ◌∷◌, ◌++◌, length, drop, take, get_or, ◌≡◌, ◌≤◌, ◌<◌, ◌+◌, ℕ, zero, suc, refl, sym, ap, ◌∙◌, arith, Bool, true, false, cond, not, Option, Some, None, append_assoc, append-nil}
+use Rattle.std.proofs.Common.{List, [], ◌∷◌, ◌++◌, length, drop, take, get_or, ◌≡◌, ◌≤◌, ◌<◌, ◌+◌, ℕ, zero, suc, refl, sym, ap, ◌∙◌, arith, Bool, true, false, cond, not, Option, Some, None, append-nil}
 use Rattle.std.specs.Option.{is_some}
 use Rattle.std.proofs.lemmas.Bool.{false≢true}
 use Rattle.std.proofs.lemmas.List.{drop_more}
@@ -10,7 +10,6 @@ use Rattle.md_tree.specs.declared.event.Event.TheVariants.{Start, End}
 use Rattle.md_tree.specs.declared.event.Tag.TheVariants as tag
 use Rattle.md_tree.specs.declared.event.TagEnd.TheVariants as end
 use Rattle.md_tree.specs.Tree.{Nodes, Empty, Branch, events, has_number}
-use Rattle.md_tree.proofs.Nodes.{events_then-events}
 use Rattle.md_lines.specs.Lines.{LineText, is_empty}
 use Rattle.md_rules.specs.declared.item.Marker.{Marker}
 use Rattle.md_rules.specs.Quotes.{first_alert, quoted, quotes, unquoted, without_kind}
@@ -21,7 +20,7 @@ use Rattle.md_events.specs.Node.{block_events}
 use Rattle.md_events.specs.Containers.{in_item, inside_quote, item_then, items, list_lines, with_task}
 use Rattle.md_events.specs.Blocks.{blocks}
 use Rattle.md_events.specs.Written.{begins_quote, first_list, first_marker, first_quote}
-use Rattle.md_events.proofs.Steps.{element-written}
+use Rattle.md_events.proofs.Steps.{branch-turn, element-written}
 
 pub quote-written : (n : ℕ) (lines inner rest : List LineText) (kind : Option BlockQuoteKind) (old new : List Event) → begins_quote lines ≡ true → inner ≡ quoted lines → kind ≡ first_alert inner → rest ≡ without_kind kind inner → new ≡ ((old ++ Start (tag.BlockQuote kind) ∷ []) ++ events (blocks n false rest)) ++ End (end.BlockQuote kind) ∷ [] → new ≡ old ++ block_events false (first_quote n lines)
 quote-written n [] inner rest kind old new b e k r w = absurd (false≢true b)
@@ -101,12 +100,8 @@ item-turn read tight kind lines later at own line marker old out new lt e l f g 
     let rest : Nodes = items read tight kind 0 (drop own later) in
     let here : drop at lines ≡ line ∷ later = drop_more lines at line lt ∙ (ap (λ x. x ∷ drop (at + 1) lines) (sym e) ∙ ap (λ x. line ∷ x) (sym l)) in
     let found : items read tight kind 0 (drop at lines) ≡ Branch tag.Item item rest = ap (items read tight kind 0) here ∙ (items-item read tight kind line later marker f g ∙ ap (λ n. Branch tag.Item (in_item read tight marker line (take n later)) (items read tight kind 0 (drop n later))) (sym o)) in
-    let parts : events (Branch tag.Item item rest) ≡ events (Branch tag.Item item Empty) ++ events rest = events_then-events (Branch tag.Item item Empty) (events rest) in
     let behind : drop (at + 1 + own) lines ≡ drop own later = drop-drop own (at + 1) lines ∙ ap (drop own) (sym l) in
-    ap (λ x. x ++ events (items read tight kind 0 (drop (at + 1 + own) lines))) w
-    ∙ (ap (λ x. (out ++ events (Branch tag.Item item Empty)) ++ events (items read tight kind 0 x)) behind
-    ∙ (append_assoc out (events (Branch tag.Item item Empty)) (events rest)
-    ∙ (ap (λ x. out ++ x) (sym (ap events found ∙ parts)) ∙ h)))
+    ap (λ x. new ++ events (items read tight kind 0 x)) behind ∙ branch-turn tag.Item item rest old out new w (ap (λ x. out ++ events x) (sym found) ∙ h)
 
 pub items-stop : (read : Bool → List LineText → Nodes) (tight : Bool) (kind : ℕ) (lines : List LineText) (at : ℕ) (d : LineText) (old out : List Event) → at < length lines → is_empty (get_or lines at d) ≡ false → next_item kind (get_or lines at d) ≡ None → out ++ events (items read tight kind 0 (drop at lines)) ≡ old → out ≡ old
 items-stop read tight kind lines at d old out lt e f h =

@@ -20,11 +20,13 @@ use Rattle.md_rules.specs.Code.{text_from}
 use Rattle.md_rules.specs.Items.{item_column, item_line, item_lines, item_more, marker_of, task_of}
 use Rattle.md_rules.specs.Lists.{is_loose, next_item}
 use Rattle.md_rules.specs.Quotes.{first_alert, quoted}
+use Rattle.md_rules.specs.Tables.{cells}
 use Rattle.md_rules.proofs.Filled.{filled, filled-first, filled-item, filled-later, filled-lines_of, filled-quoted, filled-take, filled-without_kind}
 use Rattle.md_rules.proofs.ItemLemmas.{marker-small}
 use Rattle.md_events.specs.Node.{Node, Run, node_then}
 use Rattle.md_events.specs.CodeBlocks.{code_lines, text_then}
 use Rattle.md_events.specs.Containers.{in_item, inside_quote, item_then, items, list_lines}
+use Rattle.md_events.specs.Tables.{cell_nodes, row_nodes}
 use Rattle.md_events.specs.Blocks.{block, blocks, blocks_after, tree}
 use Rattle.md_events.proofs.GoodPlaces.{inlines-mixed, with_task-good}
 use Rattle.md_events.proofs.RuleSteps.{block-node}
@@ -56,6 +58,14 @@ unfolding code_lines
 code_lines-good column [] = refl
 code_lines-good column (line ∷ lines) =
     text_then-good (text_from column line) (nodes.Leaf (event.Text (10 ∷ [])) (code_lines column lines)) (code_lines-good column lines)
+
+cell_nodes-good : (texts : List (List ℕ)) → good_at (level_of level.Cells) (cell_nodes texts) ≡ true
+cell_nodes-good [] = refl
+cell_nodes-good (text ∷ others) = and_both _ _ (inlines-good (text ∷ [])) (cell_nodes-good others)
+
+row_nodes-good : (lines : List LineText) → good_at (level_of level.Rows) (row_nodes lines) ≡ true
+row_nodes-good [] = refl
+row_nodes-good (line ∷ lines) = and_both _ _ (cell_nodes-good (cells line)) (row_nodes-good lines)
 
 -- the numbers from this one on are enough for so many items
 abbrev Fits : Numbers → ℕ → Type 0
@@ -155,6 +165,7 @@ block-good h tight nests read may stands good line later small =
       list = λ marker e rest g. three (holds_blocks h) _ _ stands
           (items-good read good (not (is_loose (take (list_lines marker line later) later))) marker.kind 0 (line ∷ later) (numbers_from marker.number) (first-fits line marker (filled (line ∷ later)) e small) small) g;
     })
+    (λ sides head rows rest g. three (holds_blocks h) _ _ stands (and_both _ _ (cell_nodes-good (cells head)) (row_nodes-good rows)) g)
     (λ bodies. run-good h tight may stands bodies)
   where
     quote_inside : (lines : List LineText) → filled lines ≤ most → good_at (level_of level.Blocks) (read false (inside_quote lines)) ≡ true

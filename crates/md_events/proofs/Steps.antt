@@ -59,6 +59,12 @@ element-written t e inside old new same w =
     let whole : events_then inside (End (end_of t) ∷ []) ≡ events inside ++ End (end_of t) ∷ [] = events_then-events inside (End (end_of t) ∷ []) in
     w ∙ rw same (simp append_assoc (ap (λ x. old ++ Start t ∷ x) (sym whole)))
 
+-- one element more is written of several
+pub branch-turn : (t : Tag) (inside rest : Nodes) (old out new : List Event) → new ≡ out ++ events (Branch t inside Empty) → out ++ events (Branch t inside rest) ≡ old → new ++ events rest ≡ old
+branch-turn t inside rest old out new w h =
+    let parts : events (Branch t inside rest) ≡ events (Branch t inside Empty) ++ events rest = events_then-events (Branch t inside Empty) (events rest) in
+    ap (λ x. x ++ events rest) w ∙ (append_assoc out (events (Branch t inside Empty)) (events rest) ∙ (ap (λ x. out ++ x) (sym parts) ∙ h))
+
 -- the inlines of the first lines, as many as the paragraph takes
 source-inlines : (n : Bool) (line : LineText) (later : List LineText) (count : ℕ) → count ≡ 1 + paragraph_more n (drop 1 (line ∷ later)) → inlines (map body_of (take count (line ∷ later))) ≡ inlines (map body_of (line ∷ take (paragraph_more n later) later))
 source-inlines n line later count c =

@@ -68,6 +68,7 @@ blocks_after-whole nests read zero (line ∷ later) =
     block-node IsWhole nests read line later
     (record { heading = λ h rest. tt; rule = λ rest. refl; code = λ kind column lines rest. tt })
     (record { quote = λ e rest. tt; list = λ m e rest. tt })
+    (λ sides head rows rest. tt)
     (λ bodies rest. tt) in
     elim (is_empty line) as (λ v. BeginsWhole (cond v (blocks_after nests read false zero later) (node_then false (block nests read line later).node rest))) [ true ↦ passed | false ↦ here rest ]
 

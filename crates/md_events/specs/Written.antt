@@ -13,6 +13,7 @@ use Rattle.md_events.specs.Node.{Block, Run, block_events, node_then}
 use Rattle.md_events.specs.CodeBlocks.{fence_node, indented}
 use Rattle.md_events.specs.LeafBlocks.{leaf_block}
 use Rattle.md_events.specs.Containers.{container, list, quote}
+use Rattle.md_events.specs.Tables.{table_block}
 use Rattle.md_events.specs.Blocks.{block, blocks, paragraph}
 
 -- no block, where there is no line
@@ -57,6 +58,10 @@ first_list n marker (line ∷ later) = list (blocks n) marker line later
 abbrev pub first_container : ℕ → List LineText → Option Block
 first_container n [] = None
 first_container n (line ∷ later) = container (nests n) (reader n) line later
+
+abbrev pub first_table : Bool → List LineText → Option Block
+first_table nests [] = None
+first_table nests (line ∷ later) = table_block nests line later
 
 abbrev pub first_paragraph : Bool → List LineText → Block
 first_paragraph nests [] = no_block

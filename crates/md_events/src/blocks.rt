@@ -10,6 +10,7 @@ ghost use Rattle.md_events.specs.Written.{begins_quote, first_block, first_conta
 
 use crate::leaf_blocks::write_leaf_block;
 use crate::paragraph::write_paragraph;
+use crate::tables::write_table;
 use crate::task_mark::into_paragraph;
 use md_lines::Line;
 use md_rules::{
@@ -62,7 +63,11 @@ fn write_block<'a>(
     if let Some(count) = write_container(alloc, lines, levels, out)? {
         return Ok(count);
     }
-    write_paragraph(alloc, lines, nests(levels), tight, out)
+    let nests = nests(levels);
+    if let Some(count) = write_table(alloc, lines, nests, out)? {
+        return Ok(count);
+    }
+    write_paragraph(alloc, lines, nests, tight, out)
 }
 
 /// Whether containers may stand where so many levels are left.

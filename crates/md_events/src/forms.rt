@@ -10,7 +10,7 @@ use term_text::next_line;
 
 /// Whether all forms of the text are built. Takes no memory.
 ///
-/// It is false exactly where the text holds `$`, `<`, `|`, `![`, `[^`, or a `:` directly followed by a blank, or where
+/// It is false exactly where the text holds `$`, `<`, `![`, `[^`, or a `:` directly followed by a blank, or where
 /// its first line has indent 0 and the trimmed body `---`.
 pub fn built(text: &str) -> bool
     ensures { result ≡ built text.now }
@@ -29,7 +29,7 @@ fn has_unbuilt_byte(bytes: &[u8]) -> bool
 fn is_unbuilt(b: u8) -> bool
     ensures { result ≡ is_unbuilt b }
 {
-    matches!(b, b'$' | b'<' | b'|')
+    matches!(b, b'$' | b'<')
 }
 
 fn has_unbuilt_pair(bytes: &[u8]) -> bool

@@ -8,6 +8,7 @@ pub mod laws;
 mod leaf_blocks;
 mod paragraph;
 mod reader;
+mod tables;
 mod task_mark;
 
 pub use forms::built;

@@ -6,7 +6,7 @@ ghost use Rattle.md_events.specs.Written.{first_paragraph};
 
 use md_inline::write_inlines;
 use md_lines::Line;
-use md_rules::{begins_leaf, item_interrupts, quotes};
+use md_rules::{begins_leaf, item_interrupts, quotes, starts_table};
 use md_tree::{Event, Tag, TagEnd};
 use std::alloc::{AllocError, Global};
 
@@ -34,11 +34,13 @@ pub(crate) fn write_paragraph<'a>(
     Ok(count)
 }
 
-/// Whether a paragraph ends at this line, since another block begins there.
-fn interrupts(nests: bool, line: &Line) -> bool
-    ensures { result ≡ interrupts nests line.now }
+/// Whether a paragraph ends at this line, which later lines follow, since another block begins there.
+fn interrupts(nests: bool, line: &Line, later: &[Line]) -> bool
+    ensures { result ≡ interrupts nests line.now later.now }
 {
-    begins_leaf(line) || nests && (quotes(line) || item_interrupts(line))
+    begins_leaf(line)
+        || nests && (quotes(line) || item_interrupts(line))
+        || starts_table(line, later)
 }
 
 /// How many of the lines go on with a paragraph before them.
@@ -50,7 +52,7 @@ fn paragraph_more(nests: bool, lines: &[Line]) -> usize
     let mut at = 0;
     while at < lines.len() {
         let line = &lines[at];
-        if line.is_empty() || interrupts(nests, line) {
+        if line.is_empty() || interrupts(nests, line, &lines[at + 1..]) {
             break;
         }
         at += 1;

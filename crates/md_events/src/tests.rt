@@ -2,6 +2,7 @@ use super::*;
 use std::alloc::{AllocError, Global};
 use std::process::Abort;
 use std::test::Fail;
+use term_text::{Alignment, CowStr};
 
 /// Appends the attributes of a heading.
 fn show_attributes(
@@ -39,53 +40,108 @@ fn level_number(level: HeadingLevel) -> u32 {
     }
 }
 
-/// Appends an event: elements in angle brackets, texts in round ones, `/` for a soft break and `|` for a hard one.
-fn show(shown: &mut String, event: &Event) -> Result<(), AllocError> {
-    match event {
-        Event::Start(Tag::Paragraph) => shown.push_str("<p>"),
-        Event::End(TagEnd::Paragraph) => shown.push_str("</p>"),
-        Event::Start(
-            Tag::Heading {
-                level,
-                id,
-                classes,
-                attrs,
-            },
-        ) => {
-            let level = level_number(*level);
-            write!(shown, "<h{level}")?;
-            let id = match id {
-                Some(id) => Some(id.as_str()),
-                None => None,
-            };
-            show_attributes(shown, id, classes, attrs)?;
-            shown.push_str(">")
-        }
-        Event::End(TagEnd::Heading(level)) => {
-            let level = level_number(*level);
-            write!(shown, "</h{level}>")
-        }
-        Event::Start(Tag::CodeBlock(CodeBlockKind::Indented)) => shown.push_str("<indented>"),
-        Event::Start(Tag::CodeBlock(CodeBlockKind::Fenced(info))) => {
+fn alignment_mark(alignment: &Alignment) -> &'static str {
+    match alignment {
+        Alignment::None => " -",
+        Alignment::Left => " <",
+        Alignment::Right => " >",
+        Alignment::Center => " ^",
+    }
+}
+
+/// Appends the start of a table with the marks of its columns.
+fn show_table(shown: &mut String, alignments: &Alignments) -> Result<(), AllocError> {
+    shown.push_str("<table")?;
+    for alignment in alignments.as_slice() {
+        shown.push_str(alignment_mark(alignment))?;
+    }
+    shown.push_str(">")
+}
+
+/// Appends the start of a heading with its attributes.
+fn show_heading(
+    shown: &mut String,
+    level: HeadingLevel,
+    id: &Option<CowStr>,
+    classes: &Classes,
+    attrs: &Attrs,
+) -> Result<(), AllocError> {
+    let level = level_number(level);
+    write!(shown, "<h{level}")?;
+    let id = match id {
+        Some(id) => Some(id.as_str()),
+        None => None,
+    };
+    show_attributes(shown, id, classes, attrs)?;
+    shown.push_str(">")
+}
+
+/// Appends the start of an element, in angle brackets, but for cells, which stand in square ones.
+fn show_start(shown: &mut String, tag: &Tag) -> Result<(), AllocError> {
+    match tag {
+        Tag::Paragraph => shown.push_str("<p>"),
+        Tag::Heading {
+            level,
+            id,
+            classes,
+            attrs,
+        } => show_heading(shown, *level, id, classes, attrs),
+        Tag::CodeBlock(CodeBlockKind::Indented) => shown.push_str("<indented>"),
+        Tag::CodeBlock(CodeBlockKind::Fenced(info)) => {
             let info = info.as_str();
             write!(shown, "<code {info}>")
         }
-        Event::End(TagEnd::CodeBlock) => shown.push_str("</code>"),
-        Event::Start(Tag::BlockQuote(None)) => shown.push_str("<quote>"),
-        Event::Start(Tag::BlockQuote(Some(BlockQuoteKind::Note))) => shown.push_str("<note>"),
-        Event::Start(Tag::BlockQuote(Some(_))) => shown.push_str("<alert>"),
-        Event::End(TagEnd::BlockQuote(_)) => shown.push_str("</quote>"),
-        Event::Start(Tag::List(None)) => shown.push_str("<list>"),
-        Event::Start(Tag::List(Some(number))) => write!(shown, "<list {number}>"),
-        Event::End(TagEnd::List(_)) => shown.push_str("</list>"),
-        Event::Start(Tag::Item) => shown.push_str("<item>"),
-        Event::End(TagEnd::Item) => shown.push_str("</item>"),
+        Tag::BlockQuote(None) => shown.push_str("<quote>"),
+        Tag::BlockQuote(Some(BlockQuoteKind::Note)) => shown.push_str("<note>"),
+        Tag::BlockQuote(Some(_)) => shown.push_str("<alert>"),
+        Tag::List(None) => shown.push_str("<list>"),
+        Tag::List(Some(number)) => write!(shown, "<list {number}>"),
+        Tag::Item => shown.push_str("<item>"),
+        Tag::Table(alignments) => show_table(shown, alignments),
+        Tag::TableHead => shown.push_str("<head>"),
+        Tag::TableRow => shown.push_str("<row>"),
+        Tag::TableCell => shown.push_str("["),
+        Tag::Strong => shown.push_str("<b>"),
+        _ => shown.push_str("?"),
+    }
+}
+
+/// Appends the end of an element.
+fn show_end(shown: &mut String, tag: TagEnd) -> Result<(), AllocError> {
+    match tag {
+        TagEnd::Paragraph => shown.push_str("</p>"),
+        TagEnd::Heading(level) => {
+            let level = level_number(level);
+            write!(shown, "</h{level}>")
+        }
+        TagEnd::CodeBlock => shown.push_str("</code>"),
+        TagEnd::BlockQuote(_) => shown.push_str("</quote>"),
+        TagEnd::List(_) => shown.push_str("</list>"),
+        TagEnd::Item => shown.push_str("</item>"),
+        TagEnd::Table => shown.push_str("</table>"),
+        TagEnd::TableHead => shown.push_str("</head>"),
+        TagEnd::TableRow => shown.push_str("</row>"),
+        TagEnd::TableCell => shown.push_str("]"),
+        TagEnd::Strong => shown.push_str("</b>"),
+        _ => shown.push_str("?"),
+    }
+}
+
+/// Appends an event: texts in round brackets, code in backticks, `/` for a soft break and `|` for a hard one.
+fn show(shown: &mut String, event: &Event) -> Result<(), AllocError> {
+    match event {
+        Event::Start(tag) => show_start(shown, tag),
+        Event::End(tag) => show_end(shown, *tag),
         Event::TaskListMarker(true) => shown.push_str("[x]"),
         Event::TaskListMarker(false) => shown.push_str("[ ]"),
         Event::Rule => shown.push_str("<rule>"),
         Event::Text(text) => {
             let text = text.as_str();
             write!(shown, "({text})")
+        }
+        Event::Code(text) => {
+            let text = text.as_str();
+            write!(shown, "`{text}`")
         }
         Event::SoftBreak => shown.push_str("/"),
         Event::HardBreak => shown.push_str("|"),
@@ -360,11 +416,38 @@ fn rules_have_three_marks(rt: HostRuntime) -> Result<(), Fail> {
 }
 
 #[test]
+fn tables_have_a_head_and_rows(rt: HostRuntime) -> Result<(), Fail> {
+    let rows = [
+        (
+            "|a|**b**|\n|-|:-:|\n| c `d` | |\n\ne",
+            "<table - ^><head>[(a)][<b>(b)</b>]</head><row>[(c )`d`][]</row></table><p>(e)</p>",
+        ),
+        (
+            "a\nb|c\n:--|--:\nd",
+            "<p>(a)</p><table < >><head>[(b)][(c)]</head></table><p>(d)</p>",
+        ),
+        (
+            "|a|\n|-|\n|b|c|\n||\nd\\|e|",
+            "<table -><head>[(a)]</head><row>[(b)][(c)]</row><row>[]</row><row>[(d)(|e)]</row></table>",
+        ),
+        (
+            "> |a|\n> |-|\n> |b|\n|c|",
+            "<quote><table -><head>[(a)]</head><row>[(b)]</row></table></quote><p>(|c|)</p>",
+        ),
+        (
+            "- [x] |a|\n  |-|\n  - b|",
+            "<list><item>[x]<table -><head>[(a)]</head></table><list><item>(b|)</item></list></item></list>",
+        ),
+        ("| a |\n---", "<p>(| a |)</p><rule>"),
+        ("|a|b|\n|-|", "<p>(|a|b|)/(|-|)</p>"),
+    ];
+    compare(&rt, rt.alloc(), &rows)
+}
+
+#[test]
 fn some_forms_are_not_built(rt: HostRuntime) {
-    assert!(rt; built("Hello, *world*! [a](b:c)\r\n---\n1. > - :\r      \n\tc\n```"));
-    for text in [
-        "a$", "<b", "a|b", "![a", "[^a", "a: b", "a:\tb", "---", "---  \na",
-    ] {
+    assert!(rt; built("Hello, *world*! [a](b:c)\r\n---\n|1. > - :\r      \n\tc\n```"));
+    for text in ["a$", "<b", "![a", "[^a", "a: b", "a:\tb", "---", "---  \na"] {
         assert!(rt; !built(text));
     }
 }

@@ -11,13 +11,13 @@ use Rattle.md_rules.specs.Lists.{list_more, next_item}
 use Rattle.md_events.specs.Node.{Block, block_events}
 use Rattle.md_events.specs.Containers.{in_item, items, with_task}
 use Rattle.md_events.specs.Blocks.{blocks}
-use Rattle.md_events.specs.Written.{first_container, first_leaf, first_paragraph, rule_events}
+use Rattle.md_events.specs.Written.{first_container, first_leaf, first_paragraph, first_table, lines_taken, rule_events}
 use Rattle.md_rules.proofs.ListLemmas.{next_item-marker}
 use Rattle.md_rules.proofs.Slices.{length-slice, slice-rest}
 use Rattle.md_events.proofs.ContainerSteps.{first_marker-some, item-turn, item-written, items-empty-turn, items-end, items-stop, list-written, quote-lines, quote-within, quote-written}
 use Rattle.md_events.proofs.TaskSteps.{task-written}
 use Rattle.md_events.proofs.Steps.{block-turn, blocks-end, empty-turn}
-use Rattle.md_events.proofs.RuleSteps.{container-some, leaf-some, nothing-written, paragraph-last}
+use Rattle.md_events.proofs.RuleSteps.{container-some, leaf-some, nothing-written, paragraph-last, table-some}
 use Rattle.md_events.proofs.blocks.+blocks.Goals as goal
 
 pub write_block-returns-in-Some-clause-written : goal.write_block-returns-in-Some-clause-written
@@ -42,24 +42,48 @@ pub write_block-returns-in-Some-2-clause-lines : goal.write_block-returns-in-Som
 write_block-returns-in-Some-2-clause-lines t c =
     (container-some c.args.levels c.args.tight c.args.lines.now c.in-Some-2.count (sym c.in_default.is ∙ c.in_ok-count.ensures.lines) (sym c.in-Some-2.is ∙ c.in_ok-count-2.ensures.lines)).1
 
+pub write_block-returns-in-Some-3-clause-written : goal.write_block-returns-in-Some-3-clause-written
+write_block-returns-in-Some-3-clause-written t c =
+    let lines : List LineText = c.args.lines.now in
+    let not_leaf = sym c.in_default.is ∙ c.in_ok-count.ensures.lines in
+    let not_container = sym c.in_default-2.is ∙ c.in_ok-count-2.ensures.lines in
+    let same = ap (λ v. first_table v lines) c.nests-nests.ensures in
+    let taken = sym c.in-Some-3.is ∙ (c.in_ok-count-3.ensures.lines ∙ ap lines_taken same) in
+    let first = nothing-written c.args.tight (first_leaf lines) _ _ not_leaf (c.in_ok-count.ensures.written c.args.tight) in
+    let second = nothing-written c.args.tight (first_container c.args.levels lines) _ _ not_container (c.in_ok-count-2.ensures.written c.args.tight) in
+    c.in_ok-count-3.ensures.written c.args.tight
+    ∙ (ap (λ x. x ++ rule_events c.args.tight (first_table c.nests-nests.result lines)) (second ∙ first)
+    ∙ ap (λ x. c.args.out.now.items ++ x) (ap (rule_events c.args.tight) same ∙ (table-some c.args.levels c.args.tight lines c.in-Some-3.count not_leaf not_container taken).0))
+
+pub write_block-returns-in-Some-3-clause-lines : goal.write_block-returns-in-Some-3-clause-lines
+write_block-returns-in-Some-3-clause-lines t c =
+    let lines : List LineText = c.args.lines.now in
+    let not_leaf = sym c.in_default.is ∙ c.in_ok-count.ensures.lines in
+    let not_container = sym c.in_default-2.is ∙ c.in_ok-count-2.ensures.lines in
+    let taken = sym c.in-Some-3.is ∙ (c.in_ok-count-3.ensures.lines ∙ ap (λ v. lines_taken (first_table v lines)) c.nests-nests.ensures) in
+    (table-some c.args.levels c.args.tight lines c.in-Some-3.count not_leaf not_container taken).1
+
 pub write_block-returns-clause-written : goal.write_block-returns-clause-written
 write_block-returns-clause-written t c =
     let lines : List LineText = c.args.lines.now in
-    let none = sym c.in_default.is ∙ c.in_ok-count.ensures.lines in
-    let neither = sym c.in_default-2.is ∙ c.in_ok-count-2.ensures.lines in
-    let first = nothing-written c.args.tight (first_leaf lines) _ _ none (c.in_ok-count.ensures.written c.args.tight) in
-    let second = nothing-written c.args.tight (first_container c.args.levels lines) _ _ neither (c.in_ok-count-2.ensures.written c.args.tight) in
-    let block = ap (λ v. first_paragraph v lines) c.nests.ensures ∙ paragraph-last c.args.levels lines none neither in
+    let not_leaf = sym c.in_default.is ∙ c.in_ok-count.ensures.lines in
+    let not_container = sym c.in_default-2.is ∙ c.in_ok-count-2.ensures.lines in
+    let not_table = sym c.in_default-3.is ∙ c.in_ok-count-3.ensures.lines in
+    let first = nothing-written c.args.tight (first_leaf lines) _ _ not_leaf (c.in_ok-count.ensures.written c.args.tight) in
+    let second = nothing-written c.args.tight (first_container c.args.levels lines) _ _ not_container (c.in_ok-count-2.ensures.written c.args.tight) in
+    let third = nothing-written c.args.tight (first_table c.nests-nests.result lines) _ _ not_table (c.in_ok-count-3.ensures.written c.args.tight) in
+    let block = ap (λ v. first_paragraph v lines) c.nests-nests.ensures ∙ paragraph-last c.args.levels lines not_leaf not_container (not_table ∙ ap (λ v. lines_taken (first_table v lines)) c.nests-nests.ensures) in
     subst (λ (x : List Event). OnOk c.write_paragraph.result (c.write_paragraph.new.out.items ≡ x))
-    (ap (λ x. x ++ block_events c.args.tight (first_paragraph c.nests.result lines)) (second ∙ first) ∙ ap (λ b. c.args.out.now.items ++ block_events c.args.tight b) block)
+    (ap (λ x. x ++ block_events c.args.tight (first_paragraph c.nests-nests.result lines)) (third ∙ (second ∙ first)) ∙ ap (λ b. c.args.out.now.items ++ block_events c.args.tight b) block)
     c.write_paragraph.ensures.written
 
 pub write_block-returns-clause-lines : goal.write_block-returns-clause-lines
 write_block-returns-clause-lines t c =
     let lines : List LineText = c.args.lines.now in
-    let none = sym c.in_default.is ∙ c.in_ok-count.ensures.lines in
-    let neither = sym c.in_default-2.is ∙ c.in_ok-count-2.ensures.lines in
-    let block = ap (λ v. first_paragraph v lines) c.nests.ensures ∙ paragraph-last c.args.levels lines none neither in
+    let not_leaf = sym c.in_default.is ∙ c.in_ok-count.ensures.lines in
+    let not_container = sym c.in_default-2.is ∙ c.in_ok-count-2.ensures.lines in
+    let not_table = sym c.in_default-3.is ∙ (c.in_ok-count-3.ensures.lines ∙ ap (λ v. lines_taken (first_table v lines)) c.nests-nests.ensures) in
+    let block = ap (λ v. first_paragraph v lines) c.nests-nests.ensures ∙ paragraph-last c.args.levels lines not_leaf not_container not_table in
     subst (λ (b : Block). IfOk c.write_paragraph.result (λ n. n ≡ b.more + 1)) block c.write_paragraph.ensures.lines
 
 pub write_blocks-loop-at-preserved-then-is_empty : goal.write_blocks-loop-at-preserved-then-is_empty
