@@ -23,9 +23,6 @@ pub cell-turn : (texts later : List (List ℕ)) (cell : List ℕ) (old out new :
 cell-turn texts later cell old out new e w h =
     branch-turn tag.TableCell (inlines (cell ∷ [])) (cell_nodes later) old out new w (ap (λ x. out ++ events (cell_nodes x)) (sym e) ∙ h)
 
-pub cells-end : (texts : List (List ℕ)) (old out : List Event) → texts ≡ [] → out ++ events (cell_nodes texts) ≡ old → out ≡ old
-cells-end texts old out e h = sym (append-nil out) ∙ (ap (λ x. out ++ events (cell_nodes x)) (sym e) ∙ h)
-
 -- one row more is written
 pub row-turn : (lines : List LineText) (at : ℕ) (line : LineText) (old out new : List Event) → at < length lines → line ≡ get_or lines at line → new ≡ out ++ events (Branch tag.TableRow (cell_nodes (cells line)) Empty) → out ++ events (row_nodes (drop at lines)) ≡ old → new ++ events (row_nodes (drop (at + 1) lines)) ≡ old
 row-turn lines at line old out new lt e w h =
