@@ -1,33 +1,43 @@
--- What stands in a block of code is nothing by itself.
-use Rattle.std.proofs.Common.{◌≡◌, true, refl}
+-- What stands in a block of code is kept as its content.
+use Rattle.std.proofs.Common.{◌≡◌, ℕ, List, ◌++◌, true, ap, sym, ◌∙◌, append_assoc}
+use Rattle.std.proofs.lemmas.List.{append-nil}
+use Rattle.term_text.specs.Text.{LineView}
+use Rattle.md_tree.specs.declared.event.Event.{Event}
+use Rattle.md_tree.specs.declared.event.Event.TheVariants as event
 use Rattle.md_tree.specs.declared.event.Tag.{Tag}
 use Rattle.md_tree.specs.declared.event.Tag.TheVariants as tag
 use Rattle.md_tree.specs.declared.place.Holds.TheVariants as level
 use Rattle.md_tree.specs.declared.place.Place.{Place}
-use Rattle.md_tree.specs.Tree.{Nodes, Empty, Leaf, Branch}
+use Rattle.md_tree.specs.Tree.{Nodes, Empty, Leaf, Branch, events_then}
 use Rattle.md_tree.specs.Good.{good_at, may_stand, level_of}
-use Rattle.md_tree.proofs.Nodes.{and_left, and_right}
 use Rattle.md_text.specs.declared.environment.Environment.{Environment}
 use Rattle.md_text.specs.declared.environment.Spacing.{Spacing}
-use Rattle.md_text.specs.declared.environment.Within.TheVariants.{Code}
-use Rattle.md_text.specs.Laid.{nothing_laid}
 use Rattle.md_text.specs.Look.{Look}
-use Rattle.md_text.specs.Layout.{layout}
+use Rattle.md_text.specs.Texts.{leaf_text, texts}
+use Rattle.md_text.specs.State.{Begun, run}
+use Rattle.md_text.proofs.GoodNodes.{good-behind_leaf, good-tag}
+use Rattle.md_text.proofs.States.{code_state}
 
 -- the place of a code block's texts
 abbrev pub code_place : Place
 code_place = level_of level.CodeTexts
-
-abbrev pub within_code : Environment → Environment
-within_code env = record env { within = Code }
 
 -- no element stands there
 pub element-in-code : (t : Tag) → may_stand code_place t ≡ true → ⊥
 element-in-code tag.Paragraph g = cc
 element-in-code t g = cc
 
-pub layout-code : (look : Look) (t : Nodes) (env : Environment) (spacing : Spacing) → good_at code_place t ≡ true →
-    layout look (within_code env) spacing t ≡ nothing_laid spacing
-layout-code look Empty env spacing g = refl
-layout-code look (Leaf e rest) env spacing g = layout-code look rest env spacing (and_right _ _ g)
-layout-code look (Branch t inside rest) env spacing g = absurd (element-in-code t (and_left _ _ g))
+-- a run over the texts of a block of code keeps them as its content
+pub run-texts : (look : Look) (t : Nodes) (es : List Event) (elements : List Begun) (env : Environment) (spacing : Spacing) (content : List ℕ) (lines : List LineView) →
+    good_at code_place t ≡ true →
+    run look (events_then t es) (code_state elements env spacing content lines)
+    ≡ run look es (code_state elements env spacing (content ++ texts t) lines)
+run-texts look Empty es elements env spacing content lines g =
+    ap (λ (c : List ℕ). run look es (code_state elements env spacing c lines)) (sym (append-nil content))
+run-texts look (Leaf (event.Start t) rest) es elements env spacing content lines g = cc
+run-texts look (Leaf (event.End e) rest) es elements env spacing content lines g = cc
+run-texts look (Leaf (event.TaskListMarker is_done) rest) es elements env spacing content lines g = cc
+run-texts look (Leaf e rest) es elements env spacing content lines g =
+    run-texts look rest es elements env spacing (content ++ leaf_text e) lines (good-behind_leaf code_place e rest g)
+    ∙ ap (λ (c : List ℕ). run look es (code_state elements env spacing c lines)) (append_assoc content (leaf_text e) (texts rest))
+run-texts look (Branch t inside rest) es elements env spacing content lines g = absurd (element-in-code t (good-tag code_place t inside rest g))

@@ -14,5 +14,5 @@ draws-append lines (mark ∷ a) b = draws-append (draw lines mark) a b
 pub laid-then : (state : State) (first : Laid) (next : Spacing → Laid) →
     laid state (then_laid first next) ≡ laid (laid state first) (next first.after)
 laid-then state first next =
-    ap (λ (lines : List LineView). record { open_elements = state.open_elements; environment = state.environment; spacing = (next first.after).after; content = state.content; lines = lines })
+    ap (λ (lines : List LineView). record state { spacing = (next first.after).after; lines = lines })
     (draws-append state.lines first.marks (next first.after).marks)

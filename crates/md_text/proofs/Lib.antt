@@ -1,9 +1,14 @@
 pub mod Lines
 pub mod Draws
+pub mod States
+pub mod PieceSpans
+pub mod GoodNodes
 pub mod Each
 pub mod TextLines
 pub mod Words
 pub mod CodeInside
+pub mod FlatRuns
+pub mod TableRuns
 pub mod Widths
 pub mod Runs
 pub mod Pieces
