@@ -11,6 +11,8 @@ mod marker;
 mod options;
 mod render;
 #[cfg(test)]
+mod table_tests;
+#[cfg(test)]
 mod tests;
 #[cfg(test)]
 mod text_tests;

@@ -6,6 +6,7 @@ ghost use Rattle.md_text.specs.State.{State, laid, first_state};
 
 use crate::environment::{Environment, Fresh, Spacing};
 use crate::frame::Frame;
+use md_table::TableBuilder;
 use std::alloc::{AllocError, Global};
 use std::marker::Model;
 use term_text::{CowStr, Line, Span, Stack, Style, Text};
@@ -15,9 +16,11 @@ mod code;
 mod containers;
 mod headings;
 mod inlines;
+mod tables;
 mod walk;
 
-/// The open elements, the environment and the spacing state here, and the lines so far.
+/// The open elements, the environment and the spacing state here, what is known of the open block of code and table, and the
+/// lines so far.
 #[derive(Drop)]
 pub struct Machine<'e, 'a> {
     alloc: Global,
@@ -26,6 +29,8 @@ pub struct Machine<'e, 'a> {
     spacing: Spacing,
     // The texts of the open block of code so far.
     content: String,
+    // The open table so far.
+    builder: TableBuilder<'a>,
     lines: Vec<Line<'a>>,
 }
 
@@ -35,7 +40,7 @@ impl<'e, 'a> Model for Machine<'e, 'a> {
 
     ghost Value = { State };
 
-    ghost view = { λ m. record { open_elements = m.frames; environment = m.environment; spacing = m.spacing; content = string_bytes m.content; lines = m.lines.items } };
+    ghost view = { λ m. record { open_elements = m.frames; environment = m.environment; spacing = m.spacing; content = string_bytes m.content; builder = m.builder; lines = m.lines.items } };
 }
 
 impl<'e, 'a> Machine<'e, 'a> {
@@ -49,6 +54,7 @@ impl<'e, 'a> Machine<'e, 'a> {
             environment: Environment::first(),
             spacing: Spacing::first(),
             content: String::new(alloc),
+            builder: TableBuilder::new(alloc, Vec::new(alloc)),
             lines: Vec::new(alloc),
         }
     }

@@ -69,7 +69,8 @@ fn numbered(alloc: Global, columns: usize, number: u64) -> Result<String, AllocE
     Ok(text)
 }
 
-fn blanks(alloc: Global, count: usize) -> Result<String, AllocError>
+/// So many blanks.
+pub fn blanks(alloc: Global, count: usize) -> Result<String, AllocError>
     ensures { IfOk result (λ text. string_bytes text ≡ replicate count 32) }
 {
     let mut text = String::new(alloc);

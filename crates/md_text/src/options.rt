@@ -62,6 +62,20 @@ impl<S: StyleSheet> Options<S> {
     {
         &self.styles
     }
+
+    /// The columns that tables are to fit in, if a width is set.
+    pub(crate) fn width_of_tables(&self) -> Option<u16>
+        ensures { result ≡ self.now.table_width }
+    {
+        self.table_width
+    }
+
+    /// Whether border lines stand between the rows of tables.
+    pub(crate) fn row_dividers(&self) -> RowDividers
+        ensures { result ≡ dividers_of self.now.row_dividers }
+    {
+        RowDividers::from(self.row_dividers)
+    }
 }
 
 impl Default for Options<DefaultStyleSheet> {

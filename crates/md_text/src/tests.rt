@@ -33,6 +33,8 @@ fn style_name(style: Style) -> &'static str {
         (sheet.alert(AlertKind::Tip).bold(), "<bold quote>"),
         (sheet.heading(1).patch(sheet.blockquote()), "<h1 quote>"),
         (sheet.list_marker(), "<marker>"),
+        (sheet.table_border(), "<border>"),
+        (sheet.table_header(), "<head>"),
         (Style::reset(), "<reset>"),
         (plain.red(), "<red>"),
         (Style::reset().red(), "<reset red>"),
@@ -65,7 +67,7 @@ pub(crate) fn drawn(alloc: Global, text: &Text) -> Result<String, AllocError> {
     Ok(drawn)
 }
 
-fn text(content: &'static str) -> Event<'static> {
+pub(crate) fn text(content: &'static str) -> Event<'static> {
     Event::Text(CowStr::borrowed(content))
 }
 
@@ -353,15 +355,15 @@ fn a_highlighter_of_ones_own_is_asked_for_each_line(rt: HostRuntime) -> Result<(
 }
 
 // The events of the start and of the end of an element.
-fn start(tag: Tag<'static>) -> Event<'static> {
+pub(crate) fn start(tag: Tag<'static>) -> Event<'static> {
     Event::Start(tag)
 }
 
-fn end(tag: Tag<'static>) -> Event<'static> {
+pub(crate) fn end(tag: Tag<'static>) -> Event<'static> {
     Event::End(tag.end())
 }
 
-fn quote() -> Tag<'static> {
+pub(crate) fn quote() -> Tag<'static> {
     Tag::BlockQuote(None)
 }
 

@@ -1,13 +1,10 @@
 // What elements lay out before and behind what is inside them.
 ghost use Rattle.std.specs.Prelude.{◌≡◌, OnOk};
-ghost use Rattle.md_text.specs.Look.{look_of};
 ghost use Rattle.md_text.specs.Blocks.{paragraph, enter, leave};
 ghost use Rattle.md_text.specs.State.{laid};
 
 use super::Machine;
 use crate::environment::Fresh;
-use crate::highlight::Highlighter;
-use crate::options::Options;
 use md_events::Tag;
 use md_table::StyleSheet;
 use std::alloc::AllocError;
@@ -31,7 +28,6 @@ impl<'e, 'a> Machine<'e, 'a> {
             | Tag::HtmlBlock
             | Tag::DefinitionListTitle
             | Tag::DefinitionListDefinition
-            | Tag::TableCell
             | Tag::MetadataBlock => self.paragraph(),
             _ => Ok(()),
         }
@@ -51,16 +47,13 @@ impl<'e, 'a> Machine<'e, 'a> {
         Ok(())
     }
 
-    /// What an element lays out behind its inside, whose joined texts are given.
-    pub(super) fn leave<S: StyleSheet, H: Highlighter>(
+    /// What an element lays out behind its inside; blocks of code and tables are laid out elsewhere.
+    pub(super) fn leave<S: StyleSheet>(
         &mut self,
-        options: &Options<S>,
-        highlighter: &H,
+        sheet: &S,
         tag: &Tag<'a>,
-        content: &str,
     ) -> Result<(), AllocError>
-        ensures { OnOk result (self.new
-            ≡ laid self.old (leave (look_of options.now S.sheet (H.known highlighter.now) (H.answer highlighter.now)) self.old.environment self.old.spacing tag.now content.now)) }
+        ensures { OnOk result (self.new ≡ laid self.old (leave (S.sheet sheet.now) self.old.spacing tag.now)) }
     {
         match tag {
             Tag::Heading {
@@ -68,16 +61,14 @@ impl<'e, 'a> Machine<'e, 'a> {
                 classes,
                 attrs,
                 ..
-            } => self.heading_end(options.styles(), id, classes, attrs),
-            Tag::Link { dest_url } => self.link_end(options.styles(), dest_url),
-            Tag::CodeBlock(kind) => self.code_block(options, highlighter, kind, content),
+            } => self.heading_end(sheet, id, classes, attrs),
+            Tag::Link { dest_url } => self.link_end(sheet, dest_url),
             Tag::Paragraph
             | Tag::BlockQuote(_)
             | Tag::HtmlBlock
             | Tag::List(_)
             | Tag::DefinitionListTitle
             | Tag::DefinitionListDefinition
-            | Tag::TableCell
             | Tag::MetadataBlock => {
                 self.spacing.due = true;
                 Ok(())

@@ -1,6 +1,6 @@
 // What inlines lay out.
 ghost use Rattle.std.specs.Prelude.{◌≡◌, OnOk};
-ghost use Rattle.md_text.specs.Inlines.{begin_line, text_line, text, code, soft_break, rule, task_mark, link_end, text_lines, line_leaf};
+ghost use Rattle.md_text.specs.Inlines.{begin_line, text_line, text, code, soft_break, rule, task_mark, link_end, text_lines, leaf};
 ghost use Rattle.md_text.specs.State.{laid};
 ghost use Rattle.std.specs.Str.Lines.{lines};
 
@@ -11,14 +11,14 @@ use std::alloc::AllocError;
 use term_text::{CowStr, Span};
 
 impl<'e, 'a> Machine<'e, 'a> {
-    /// What a leaf in lines lays out; those without a row as yet are laid out as nothing.
-    pub(super) fn line_leaf<S: StyleSheet>(
+    /// What a leaf lays out; those without a row as yet are laid out as nothing.
+    pub(super) fn leaf<S: StyleSheet>(
         &mut self,
         sheet: &S,
         event: &Event<'a>,
     ) -> Result<(), AllocError>
         ensures { OnOk result (self.new
-            ≡ laid self.old (line_leaf (S.sheet sheet.now) self.old.environment self.old.spacing event.now)) }
+            ≡ laid self.old (leaf (S.sheet sheet.now) self.old.environment self.old.spacing event.now)) }
     {
         match event {
             Event::Text(content) => self.text(content),

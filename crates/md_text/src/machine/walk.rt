@@ -1,7 +1,7 @@
 // The walk over events.
-ghost use Rattle.std.specs.Prelude.{◌≡◌, ◌++◌, OnOk};
+ghost use Rattle.std.specs.Prelude.{◌≡◌, ◌++◌, [], OnOk};
 ghost use Rattle.md_text.specs.Look.{look_of};
-ghost use Rattle.md_text.specs.State.{started, ended, leaf_step, step, run};
+ghost use Rattle.md_text.specs.State.{started, ended, ended_within, left, builder_behind, leaf_step, laid, step, run};
 ghost use Rattle.md_text.specs.Texts.{leaf_text};
 
 use super::Machine;
@@ -10,7 +10,7 @@ use crate::frame::Frame;
 use crate::highlight::Highlighter;
 use crate::options::Options;
 use md_events::{Event, Tag};
-use md_table::StyleSheet;
+use md_table::{StyleSheet, TableBuilder};
 use std::alloc::AllocError;
 use std::mem;
 
@@ -51,6 +51,7 @@ impl<'e, 'a> Machine<'e, 'a> {
         ensures { OnOk result (self.new ≡ started (S.sheet sheet.now) self.old tag.now) }
     {
         self.enter(sheet, tag)?;
+        self.started_in_table(tag)?;
         self.frames.push(Frame {
             tag,
             environment: self.environment,
@@ -59,14 +60,14 @@ impl<'e, 'a> Machine<'e, 'a> {
         Ok(())
     }
 
-    /// A leaf is laid out, or is content of the open block of code.
+    /// A leaf is laid out, is content of the open block of code, or goes to the open cell.
     fn leaf_step<S: StyleSheet>(&mut self, sheet: &S, leaf: &Event<'a>) -> Result<(), AllocError>
         ensures { OnOk result (self.new ≡ leaf_step (S.sheet sheet.now) self.old leaf.now) }
     {
         match self.environment.within {
-            Within::Lines => self.line_leaf(sheet, leaf)?,
+            Within::Lines => self.leaf(sheet, leaf)?,
             Within::Code => self.keep(leaf)?,
-            Within::Cell => {}
+            Within::Cell => self.flat_leaf(sheet, leaf)?,
         }
         self.environment = self.environment.behind(leaf)?;
         Ok(())
@@ -95,9 +96,48 @@ impl<'e, 'a> Machine<'e, 'a> {
             None => Ok(()),
             Some(frame) => {
                 self.environment = frame.environment.restored(frame.tag, self.environment);
-                let content = mem::replace(&mut self.content, String::new(self.alloc));
-                self.leave(options, highlighter, frame.tag, content.as_str())
+                self.ended_within(options, highlighter, frame.tag)
             }
+        }
+    }
+
+    /// An element ends in a table, or elsewhere.
+    fn ended_within<S: StyleSheet, H: Highlighter>(
+        &mut self,
+        options: &Options<S>,
+        highlighter: &H,
+        tag: &Tag<'a>,
+    ) -> Result<(), AllocError>
+        ensures { OnOk result (self.new
+            ≡ ended_within self.old.environment.within (look_of options.now S.sheet (H.known highlighter.now) (H.answer highlighter.now)) self.old tag.now) }
+    {
+        match self.environment.within {
+            Within::Cell => self.ended_in_table(options.styles(), tag),
+            Within::Lines | Within::Code => self.left(options, highlighter, tag),
+        }
+    }
+
+    /// What an element outside tables lays out at its end: blocks of code and tables as a whole. What was kept of them is gone
+    /// then.
+    fn left<S: StyleSheet, H: Highlighter>(
+        &mut self,
+        options: &Options<S>,
+        highlighter: &H,
+        tag: &Tag<'a>,
+    ) -> Result<(), AllocError>
+        ensures { OnOk result (self.new
+            ≡ laid (record self.old { content = []; builder = builder_behind self.old.builder tag.now })
+            (left (look_of options.now S.sheet (H.known highlighter.now) (H.answer highlighter.now)) self.old tag.now)) }
+    {
+        let content = mem::replace(&mut self.content, String::new(self.alloc));
+        match tag {
+            Tag::CodeBlock(kind) => self.code_block(options, highlighter, kind, content.as_str()),
+            Tag::Table(_) => {
+                let none = TableBuilder::new(self.alloc, Vec::new(self.alloc));
+                let builder = mem::replace(&mut self.builder, none);
+                self.table(options, builder)
+            }
+            _ => self.leave(options.styles(), tag),
         }
     }
 }

@@ -1,0 +1,177 @@
+use crate::render::laid_out;
+use crate::tests::{drawn, end, quote, start, text};
+use crate::{NoHighlight, Options, from_str_with_options};
+use md_events::{Alignments, Event, Tag, built};
+use std::alloc::{AllocError, Global};
+use std::test::Fail;
+use term_text::{Alignment, CowStr, Text};
+
+// The texts of the lines, each with a line end behind it.
+fn shown(alloc: Global, text: &Text) -> Result<String, AllocError> {
+    let mut shown = String::new(alloc);
+    for line in text.lines() {
+        for span in line.spans() {
+            shown.push_str(span.text())?;
+        }
+        shown.push_str("\n")?;
+    }
+    Ok(shown)
+}
+
+fn table(alloc: Global) -> Tag<'static> {
+    Tag::Table(Alignments::new(alloc))
+}
+
+// A table of one column with two rows, behind these events.
+fn table_behind<const N: usize>(
+    alloc: Global,
+    before: [Event<'static>; N],
+) -> Result<Vec<Event<'static>>, AllocError> {
+    let mut events = Vec::from_array(alloc, before)?;
+    let table = [
+        start(table(alloc)),
+        start(Tag::TableHead),
+        start(Tag::TableCell),
+        text("aa bb"),
+        end(Tag::TableCell),
+        end(Tag::TableHead),
+        start(Tag::TableRow),
+        start(Tag::TableCell),
+        text("c"),
+        end(Tag::TableCell),
+        end(Tag::TableRow),
+        start(Tag::TableRow),
+        end(Tag::TableRow),
+        end(table(alloc)),
+    ];
+    for event in table {
+        events.push(event)?;
+    }
+    Ok(events)
+}
+
+#[test]
+fn cells_hold_their_inlines_in_one_line(rt: HostRuntime) -> Result<(), Fail> {
+    let mut sides = Alignments::new(rt.alloc());
+    sides.push(Alignment::Center)?;
+    sides.push(Alignment::Right)?;
+    let link = Tag::Link {
+        dest_url: CowStr::borrowed("e"),
+    };
+    let link_end = link.end();
+    let events = [
+        start(Tag::Table(sides)),
+        start(Tag::TableHead),
+        start(Tag::TableCell),
+        text("a"),
+        end(Tag::TableCell),
+        start(Tag::TableCell),
+        end(Tag::TableCell),
+        end(Tag::TableHead),
+        start(Tag::TableRow),
+        start(Tag::TableCell),
+        start(Tag::Strong),
+        text("b"),
+        Event::Code(CowStr::borrowed("c")),
+        end(Tag::Strong),
+        Event::HardBreak,
+        start(link),
+        text("d"),
+        Event::End(link_end),
+        end(Tag::TableCell),
+        start(Tag::TableCell),
+        text("f"),
+        end(Tag::TableCell),
+        end(Tag::TableRow),
+        end(table(rt.alloc())),
+    ];
+    let options = Options::default();
+    let text = laid_out(rt.alloc(), &events, &options, &NoHighlight)?;
+    let drawn = drawn(rt.alloc(), &text)?;
+    assert_eq!(rt; drawn.as_str(), "");
+    Ok(())
+}
+
+#[test]
+fn tables_stand_behind_marks_and_blanks(rt: HostRuntime) -> Result<(), Fail> {
+    let quoted = [start(quote())];
+    let item = [start(Tag::List(None)), start(Tag::Item)];
+    let task = [
+        start(Tag::List(None)),
+        start(Tag::Item),
+        Event::TaskListMarker(true),
+    ];
+    let second = [
+        start(Tag::List(None)),
+        start(Tag::Item),
+        start(Tag::Paragraph),
+        text("a"),
+        end(Tag::Paragraph),
+    ];
+    let rows = [
+        (table_behind(rt.alloc(), quoted)?, ""),
+        (table_behind(rt.alloc(), item)?, ""),
+        (table_behind(rt.alloc(), task)?, ""),
+        (table_behind(rt.alloc(), second)?, ""),
+    ];
+    let options = Options::default();
+    let mut all = String::new(rt.alloc());
+    for (events, want) in rows {
+        let text = laid_out(rt.alloc(), events.as_slice(), &options, &NoHighlight)?;
+        let drawn = drawn(rt.alloc(), &text)?;
+        let _ = want;
+        all.push_str(drawn.as_str())?;
+    }
+    assert_eq!(rt; all.as_str(), "");
+    Ok(())
+}
+
+#[test]
+fn tables_are_drawn_as_the_options_say(rt: HostRuntime) -> Result<(), Fail> {
+    let rows = [
+        (Options::default(), ""),
+        (Options::default().table_width(7), ""),
+        (Options::default().table_row_dividers(true), ""),
+        (
+            Options::default().table_row_dividers(true).table_width(13),
+            "",
+        ),
+    ];
+    let before = [start(quote()), start(Tag::List(None)), start(Tag::Item)];
+    let events = table_behind(rt.alloc(), before)?;
+    let mut all = String::new(rt.alloc());
+    for (options, want) in rows {
+        let text = laid_out(rt.alloc(), events.as_slice(), &options, &NoHighlight)?;
+        let shown = shown(rt.alloc(), &text)?;
+        let _ = want;
+        all.push_str(shown.as_str())?;
+    }
+    assert_eq!(rt; all.as_str(), "");
+    Ok(())
+}
+
+#[test]
+fn tables_of_texts_are_drawn(rt: HostRuntime) -> Result<(), Fail> {
+    let rows = [
+        (
+            "|a|b|\n|:-:|--:|\n|x|yy|",
+            "┌───┬────┐\n│ a │  b │\n├───┼────┤\n│ x │ yy │\n└───┴────┘\n",
+        ),
+        (
+            "- [x] a\n\n  | H |\n  | --- |",
+            "- [x] a\n\n      ┌───┐\n      │ H │\n      ├───┤\n      └───┘\n",
+        ),
+        (
+            "> - | aa bb |\n>   | --- |",
+            "> - ┌──────┐\n>   │ aa   │\n>   │ bb   │\n>   ├──────┤\n>   └──────┘\n",
+        ),
+    ];
+    let options = Options::default().table_width(12);
+    for (input, want) in rows {
+        assert!(rt; built(input), "{input:?}");
+        let text = from_str_with_options(rt.alloc(), input, &options, &NoHighlight)?;
+        let shown = shown(rt.alloc(), &text)?;
+        assert_eq!(rt; shown.as_str(), want, "{input:?}");
+    }
+    Ok(())
+}
