@@ -88,7 +88,10 @@ fn cells_hold_their_inlines_in_one_line(rt: HostRuntime) -> Result<(), Fail> {
     let options = Options::default();
     let text = laid_out(rt.alloc(), &events, &options, &NoHighlight)?;
     let drawn = drawn(rt.alloc(), &text)?;
-    assert_eq!(rt; drawn.as_str(), "");
+    assert_eq!(rt;
+        drawn.as_str(),
+        "|┌──────────┬───┐<border>|\n|│<border>|    <h2>|a<h2>|     <h2>|│<border>|  <h2>| <h2>|│<border>|\n|├──────────┼───┤<border>|\n|│<border>| |b<bold>|c<code>| |d<link>| (|e<link>|)| |│<border>| |f| |│<border>|\n|└──────────┴───┘<border>|\n"
+    );
     Ok(())
 }
 
@@ -109,44 +112,55 @@ fn tables_stand_behind_marks_and_blanks(rt: HostRuntime) -> Result<(), Fail> {
         end(Tag::Paragraph),
     ];
     let rows = [
-        (table_behind(rt.alloc(), quoted)?, ""),
-        (table_behind(rt.alloc(), item)?, ""),
-        (table_behind(rt.alloc(), task)?, ""),
-        (table_behind(rt.alloc(), second)?, ""),
+        (
+            table_behind(rt.alloc(), quoted)?,
+            "> ┌───────┐\n> │ aa bb │\n> ├───────┤\n> │ c     │\n> │       │\n> └───────┘\n",
+        ),
+        (
+            table_behind(rt.alloc(), item)?,
+            "- ┌───────┐\n  │ aa bb │\n  ├───────┤\n  │ c     │\n  │       │\n  └───────┘\n",
+        ),
+        (
+            table_behind(rt.alloc(), task)?,
+            "- [x] ┌───────┐\n      │ aa bb │\n      ├───────┤\n      │ c     │\n      │       │\n      └───────┘\n",
+        ),
+        (
+            table_behind(rt.alloc(), second)?,
+            "- a\n\n  ┌───────┐\n  │ aa bb │\n  ├───────┤\n  │ c     │\n  │       │\n  └───────┘\n",
+        ),
     ];
     let options = Options::default();
-    let mut all = String::new(rt.alloc());
     for (events, want) in rows {
         let text = laid_out(rt.alloc(), events.as_slice(), &options, &NoHighlight)?;
-        let drawn = drawn(rt.alloc(), &text)?;
-        let _ = want;
-        all.push_str(drawn.as_str())?;
+        let shown = shown(rt.alloc(), &text)?;
+        assert_eq!(rt; shown.as_str(), want);
     }
-    assert_eq!(rt; all.as_str(), "");
     Ok(())
 }
 
 #[test]
 fn tables_are_drawn_as_the_options_say(rt: HostRuntime) -> Result<(), Fail> {
+    let wide =
+        "> - ┌───────┐\n>   │ aa bb │\n>   ├───────┤\n>   │ c     │\n>   │       │\n>   └───────┘\n";
     let rows = [
-        (Options::default(), ""),
-        (Options::default().table_width(7), ""),
-        (Options::default().table_row_dividers(true), ""),
+        (Options::default(), wide),
+        (Options::default().table_width(13), wide),
         (
-            Options::default().table_row_dividers(true).table_width(13),
-            "",
+            Options::default().table_width(12),
+            "> - ┌──────┐\n>   │ aa   │\n>   │ bb   │\n>   ├──────┤\n>   │ c    │\n>   │      │\n>   └──────┘\n",
+        ),
+        (
+            Options::default().table_row_dividers(true),
+            "> - ┌───────┐\n>   │ aa bb │\n>   ├───────┤\n>   │ c     │\n>   ├───────┤\n>   │       │\n>   └───────┘\n",
         ),
     ];
     let before = [start(quote()), start(Tag::List(None)), start(Tag::Item)];
     let events = table_behind(rt.alloc(), before)?;
-    let mut all = String::new(rt.alloc());
     for (options, want) in rows {
         let text = laid_out(rt.alloc(), events.as_slice(), &options, &NoHighlight)?;
         let shown = shown(rt.alloc(), &text)?;
-        let _ = want;
-        all.push_str(shown.as_str())?;
+        assert_eq!(rt; shown.as_str(), want);
     }
-    assert_eq!(rt; all.as_str(), "");
     Ok(())
 }
 

@@ -34,7 +34,6 @@ fn style_name(style: Style) -> &'static str {
         (sheet.heading(1).patch(sheet.blockquote()), "<h1 quote>"),
         (sheet.list_marker(), "<marker>"),
         (sheet.table_border(), "<border>"),
-        (sheet.table_header(), "<head>"),
         (Style::reset(), "<reset>"),
         (plain.red(), "<red>"),
         (Style::reset().red(), "<reset red>"),

@@ -15,6 +15,7 @@ use crate::options::Options;
 use md_events::{Event, Tag};
 use md_table::{StyleSheet, TableBuilder};
 use std::alloc::{AllocError, Global};
+use std::mem;
 use term_text::{CowStr, Line, Span, Style};
 
 impl<'e, 'a> Machine<'e, 'a> {
@@ -25,7 +26,8 @@ impl<'e, 'a> Machine<'e, 'a> {
         match tag {
             Tag::Table(alignments) => {
                 let alignments = Vec::from_slice(self.alloc, alignments.as_slice())?;
-                self.builder = TableBuilder::new(self.alloc, alignments);
+                let builder = TableBuilder::new(self.alloc, alignments);
+                let _ = mem::replace(&mut self.builder, builder);
             }
             Tag::TableCell => self.builder.start_cell(),
             _ => {}

@@ -1,0 +1,10 @@
+use Rattle.std.proofs.Common.{◌≡◌, drop}
+use Rattle.md_text.specs.Tables.{picture_line}
+use Rattle.md_text.proofs.Each.{each_left}
+use Rattle.md_text.proofs.machine.Machine.picture_lines.Given as goal
+
+-- the lines that are left make of the state what all lines make of the first one
+abbrev pub invariant-loop-line : goal.invariant-loop-line
+invariant-loop-line l =
+    each_left (picture_line l.self.environment) l.self (drop l.line-index l.picture)
+    ≡ each_left (picture_line l.fn.self.environment) l.fn.self l.picture
