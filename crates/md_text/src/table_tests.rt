@@ -23,11 +23,11 @@ fn table(alloc: Global) -> Tag<'static> {
 }
 
 // A table of one column with two rows, behind these events.
-fn table_behind<const N: usize>(
+fn table_behind(
     alloc: Global,
-    before: [Event<'static>; N],
+    before: Vec<Event<'static>>,
 ) -> Result<Vec<Event<'static>>, AllocError> {
-    let mut events = Vec::from_array(alloc, before)?;
+    let mut events = before;
     let table = [
         start(table(alloc)),
         start(Tag::TableHead),
@@ -97,35 +97,36 @@ fn cells_hold_their_inlines_in_one_line(rt: HostRuntime) -> Result<(), Fail> {
 
 #[test]
 fn tables_stand_behind_marks_and_blanks(rt: HostRuntime) -> Result<(), Fail> {
-    let quoted = [start(quote())];
-    let item = [start(Tag::List(None)), start(Tag::Item)];
-    let task = [
+    let alloc = rt.alloc();
+    let quoted = vec![in alloc; start(quote())]?;
+    let item = vec![in alloc; start(Tag::List(None)), start(Tag::Item)]?;
+    let task = vec![in alloc;
         start(Tag::List(None)),
         start(Tag::Item),
         Event::TaskListMarker(true),
-    ];
-    let second = [
+    ]?;
+    let second = vec![in alloc;
         start(Tag::List(None)),
         start(Tag::Item),
         start(Tag::Paragraph),
         text("a"),
         end(Tag::Paragraph),
-    ];
+    ]?;
     let rows = [
         (
-            table_behind(rt.alloc(), quoted)?,
+            table_behind(alloc, quoted)?,
             "> ┌───────┐\n> │ aa bb │\n> ├───────┤\n> │ c     │\n> │       │\n> └───────┘\n",
         ),
         (
-            table_behind(rt.alloc(), item)?,
+            table_behind(alloc, item)?,
             "- ┌───────┐\n  │ aa bb │\n  ├───────┤\n  │ c     │\n  │       │\n  └───────┘\n",
         ),
         (
-            table_behind(rt.alloc(), task)?,
+            table_behind(alloc, task)?,
             "- [x] ┌───────┐\n      │ aa bb │\n      ├───────┤\n      │ c     │\n      │       │\n      └───────┘\n",
         ),
         (
-            table_behind(rt.alloc(), second)?,
+            table_behind(alloc, second)?,
             "- a\n\n  ┌───────┐\n  │ aa bb │\n  ├───────┤\n  │ c     │\n  │       │\n  └───────┘\n",
         ),
     ];
@@ -154,7 +155,7 @@ fn tables_are_drawn_as_the_options_say(rt: HostRuntime) -> Result<(), Fail> {
             "> - ┌───────┐\n>   │ aa bb │\n>   ├───────┤\n>   │ c     │\n>   ├───────┤\n>   │       │\n>   └───────┘\n",
         ),
     ];
-    let before = [start(quote()), start(Tag::List(None)), start(Tag::Item)];
+    let before = vec![in rt.alloc(); start(quote()), start(Tag::List(None)), start(Tag::Item)]?;
     let events = table_behind(rt.alloc(), before)?;
     for (options, want) in rows {
         let text = laid_out(rt.alloc(), events.as_slice(), &options, &NoHighlight)?;
