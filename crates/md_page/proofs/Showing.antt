@@ -1,5 +1,5 @@
 -- What is printed of a buffer after a view of all of it.
-use Rattle.std.proofs.Common.{◌≡◌, ℕ, ◌+◌, ◌*◌, ◌<◌, ◌==◌, ◌&&◌, ◌||◌, Bool, true, false, cond, nat_le, nat_lt, List, [], length, refl, sym, ap, ap₂, subst, ◌∙◌, arith}
+use Rattle.std.proofs.Common.{◌≡◌, ℕ, ◌+◌, ◌*◌, ◌<◌, ◌==◌, ◌&&◌, ◌||◌, Bool, true, false, Some, cond, nat_le, nat_lt, List, [], length, refl, sym, ap, ap₂, subst, ◌∙◌, arith}
 use Rattle.std.specs.Prelude.{slice_get}
 use Rattle.std.proofs.lemmas.Bool.Decides.{nat_tests}
 use Rattle.term_core.specs.Text.{LineView}
@@ -14,8 +14,16 @@ use Rattle.term_widgets.proofs.LineLemmas.{AllFit-none, rows_of-none}
 use Rattle.term_widgets.proofs.PageLemmas.{buffer_rows-drawn}
 use Rattle.md_events.specs.Blocks.{tree}
 use Rattle.md_text.specs.Layout.{document_lines}
+use Rattle.md_text.specs.Look.{look_of, default_look, knows_ansi, as_it_is}
+use Rattle.md_text.specs.Options.{OptionsView, plain_options}
 use Rattle.md_words.specs.declared.job.Job.{Job}
 use Rattle.md_page.specs.Shown.{job_look, rows, shown_rows, has_no_cell}
+
+-- the default options with a job's width for tables have the job's look, with the highlighter that knows `ansi`
+pub job_look-options : {S : Type 0} (options plain : OptionsView S) (styles : S) (job : Job) → plain ≡ plain_options styles
+    → options ≡ record plain { table_width = Some job.width } → look_of options (λ s. default_look.sheet) knows_ansi as_it_is ≡ job_look job
+job_look-options {S} options plain styles job e f =
+    ap (λ (x : OptionsView S). look_of x (λ s. default_look.sheet) knows_ansi as_it_is) (f ∙ ap (λ (x : OptionsView S). record x { table_width = Some job.width }) e)
 
 common_length-same : (a m : ℕ) → common_length a m a m ≡ m
 common_length-same a m = omega arith

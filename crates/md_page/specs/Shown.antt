@@ -7,8 +7,7 @@ use Rattle.term_core.specs.Rect.{is_empty}
 use Rattle.term_widgets.specs.Page.{rows_of, any_wider}
 use Rattle.md_events.specs.Blocks.{tree}
 use Rattle.md_events.specs.Built.{built}
-use Rattle.md_table.specs.Defaults.{default_sheet}
-use Rattle.md_text.specs.Look.{Look, ansi_look}
+use Rattle.md_text.specs.Look.{Look, ansi_look, default_look}
 use Rattle.md_text.specs.Layout.{document_lines}
 use Rattle.md_words.specs.declared.job.Job.{Job}
 use Rattle.view_print.specs.Print.{print}
@@ -40,7 +39,7 @@ RefusedBy look refusal.TooNarrow text cut = IsTooNarrow look text cut
 -- a job's text is laid out in the default styles, its tables in the job's width, and code whose info text is `ansi` has the
 -- colours that it sets itself
 abbrev pub job_look : Job → Look
-job_look job = ansi_look default_sheet (Some job.width)
+job_look job = ansi_look default_look.sheet (Some job.width)
 
 -- whether a job's view has no cell
 abbrev pub has_no_cell : Job → Bool

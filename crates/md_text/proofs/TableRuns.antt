@@ -16,7 +16,7 @@ use Rattle.md_table.specs.Sheet.{Sheet}
 use Rattle.md_text.specs.declared.environment.Environment.{Environment}
 use Rattle.md_text.specs.declared.environment.Spacing.{Spacing}
 use Rattle.md_text.specs.Look.{Look}
-use Rattle.md_text.specs.Tables.{flat, cell, cells, header, rows, table_of}
+use Rattle.md_text.specs.Tables.{flat, cell, cells, rows, table_of}
 use Rattle.md_text.specs.State.{Begun, with_spans, new_builder, run}
 use Rattle.md_text.proofs.States.{within_cell, cell_state}
 use Rattle.md_text.proofs.GoodNodes.{good-leaf, good-inside, good-behind}
