@@ -8,8 +8,9 @@ use Rattle.term_text.specs.declared.style.Style.{Style}
 use Rattle.term_text.specs.declared.line_graphs.LineGraphemes.{LineGraphemes}
 use Rattle.term_text.specs.Graph.{Grapheme, columns, visible, is_visible, width_of, grapheme_of, spans_graphs, pieces_of}
 use Rattle.term_text.specs.Text.{SpanView}
-use Rattle.term_text.specs.Iter.{graphs_left, pieces_left, stretch_left}
-use Rattle.term_text.specs.Plain.{byte_grapheme}
+use Rattle.std.specs.Str.{chars}
+use Rattle.term_text.specs.Iter.{graphs_left, pieces_left, plain_left, stretch_left}
+use Rattle.term_text.specs.Plain.{byte_grapheme, plain_grapheme}
 use Rattle.term_text.specs.LineIter.{line_left}
 use Rattle.term_text.specs.Wrap.{fitting, is_blank_at, last_blank, cut_of, unless_empty}
 use Rattle.term_text.specs.Cut.{mark_of, len_of, cut_from}
@@ -42,16 +43,21 @@ AllShown-stretch : (style : Style) (bs : List ℕ) → AllShown (map (byte_graph
 AllShown-stretch style [] = tt
 AllShown-stretch style (b ∷ bs) = (omega arith, AllShown-stretch style bs)
 
+AllShown-plain : (style : Style) (cs : List ℕ) → AllShown (map (plain_grapheme style) cs)
+AllShown-plain style [] = tt
+AllShown-plain style (c ∷ cs) = (omega arith, AllShown-plain style cs)
+
 pub AllShown-spans : (under : Style) (spans : List SpanView) → AllShown (spans_graphs under spans)
 unfolding spans_graphs
 AllShown-spans under [] = tt
 AllShown-spans under (span ∷ spans) = AllShown-append _ _ (AllShown-visible _ (pieces_of span)) (AllShown-spans under spans)
 
 pub AllShown-line_left : (s : LineGraphemes) → AllShown (line_left s)
-unfolding line_left graphs_left
+unfolding line_left graphs_left plain_left
 AllShown-line_left s =
     AllShown-append _ _
-    (AllShown-append _ _ (AllShown-stretch s.current.style (stretch_left s.current)) (AllShown-visible s.current.style (pieces_left s.current)))
+    (AllShown-append _ _ (AllShown-stretch s.current.style (stretch_left s.current))
+    (AllShown-append _ _ (AllShown-plain s.current.style (chars s.current.plain.now)) (AllShown-visible s.current.style (pieces_left s.current))))
     (AllShown-spans s.under (drop s.place s.spans.now))
 
 pub width_some : (gs rest : List Grapheme) (g : Grapheme) → AllShown gs → gs ≡ g ∷ rest → 1 ≤ g.width

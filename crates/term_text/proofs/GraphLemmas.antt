@@ -5,14 +5,14 @@ use Rattle.std.proofs.lemmas.Str.{IsCharBoundary-from_ascii}
 use Rattle.std.specs.List.{list_all}
 use Rattle.std.specs.Str.{IsCharBoundary}
 use Rattle.unicode_segmentation.specs.Grapheme.{graphemes}
-use Rattle.term_text.proofs.PlainLemmas.{visible-printable, IsAscii-printable}
+use Rattle.term_text.proofs.PlainLemmas.{visible-plain, visible-printable, IsAscii-printable}
 use Rattle.std.specs.Str.{chars}
 use Rattle.unicode_segmentation.specs.Segments.{Rule, segments, cut}
 use Rattle.term_text.specs.declared.style.Style.{Style}
 use Rattle.term_text.specs.declared.graphs.Graphemes.{Graphemes}
 use Rattle.term_text.specs.Graph.{Grapheme, grapheme_of, is_visible, visible}
-use Rattle.term_text.specs.Iter.{pieces_left, stretch_left, graphs_left}
-use Rattle.term_text.specs.Plain.{byte_grapheme, is_printable}
+use Rattle.term_text.specs.Iter.{pieces_left, plain_left, stretch_left, graphs_left}
+use Rattle.term_text.specs.Plain.{IsPlain, byte_grapheme, is_printable, plain_grapheme}
 
 pub segments-nil : (rule : Rule) → segments rule [] ≡ []
 unfolding segments cut chars
@@ -26,24 +26,29 @@ pub visible-shown : (style : Style) (p : List ℕ) (ps : List (List ℕ)) → is
 unfolding visible
 visible-shown style p ps h = rw h refl
 
--- with no printable bytes in front, the pieces are what is left
-pub graphs_left-pieces : (s : Graphemes) → stretch_left s ≡ [] → graphs_left s ≡ visible s.style (pieces_left s)
-unfolding graphs_left
-graphs_left-pieces s none = ap (λ bs. map (byte_grapheme s.style) bs ++ visible s.style (pieces_left s)) none
+-- no printable bytes and no plain characters stand in front
+pub record AtPieces (s : Graphemes) : Type 0 where
+  pub stretch : stretch_left s ≡ []
+  pub plain : plain_left s ≡ []
 
-pub graphs_left-hidden : (s t : Graphemes) (p : List ℕ) → stretch_left s ≡ [] → stretch_left t ≡ [] → pieces_left s ≡ p ∷ pieces_left t → t.style ≡ s.style
+-- then the pieces are what is left
+pub graphs_left-pieces : (s : Graphemes) → AtPieces s → graphs_left s ≡ visible s.style (pieces_left s)
+unfolding graphs_left
+graphs_left-pieces s none = ap₂ (λ bs gs. map (byte_grapheme s.style) bs ++ (gs ++ visible s.style (pieces_left s))) none.stretch none.plain
+
+pub graphs_left-hidden : (s t : Graphemes) (p : List ℕ) → AtPieces s → AtPieces t → pieces_left s ≡ p ∷ pieces_left t → t.style ≡ s.style
     → is_visible p ≡ false → graphs_left t ≡ graphs_left s
 graphs_left-hidden s t p none none' e same h =
     graphs_left-pieces t none' ∙ ap (λ y. visible y (pieces_left t)) same
     ∙ sym (graphs_left-pieces s none ∙ ap (visible s.style) e ∙ visible-hidden s.style p (pieces_left t) h)
 
-pub graphs_left-shown : (s t : Graphemes) (p : List ℕ) → stretch_left s ≡ [] → stretch_left t ≡ [] → pieces_left s ≡ p ∷ pieces_left t → t.style ≡ s.style
+pub graphs_left-shown : (s t : Graphemes) (p : List ℕ) → AtPieces s → AtPieces t → pieces_left s ≡ p ∷ pieces_left t → t.style ≡ s.style
     → is_visible p ≡ true → graphs_left s ≡ grapheme_of s.style p ∷ graphs_left t
 graphs_left-shown s t p none none' e same h =
     graphs_left-pieces s none ∙ ap (visible s.style) e ∙ visible-shown s.style p (pieces_left t) h
     ∙ ap (λ y. grapheme_of s.style p ∷ visible y (pieces_left t)) (sym same) ∙ ap (λ gs. grapheme_of s.style p ∷ gs) (sym (graphs_left-pieces t none'))
 
-pub graphs_left-end : (s : Graphemes) → stretch_left s ≡ [] → pieces_left s ≡ [] → graphs_left s ≡ []
+pub graphs_left-end : (s : Graphemes) → AtPieces s → pieces_left s ≡ [] → graphs_left s ≡ []
 unfolding visible
 graphs_left-end s none e = graphs_left-pieces s none ∙ ap (visible s.style) e
 
@@ -69,6 +74,13 @@ pub stretch-graphemes : (style : Style) (text : List ℕ) (ps : List (List ℕ))
 unfolding visible
 stretch-graphemes style text ps h none =
     ap (λ qs. map (byte_grapheme style) text ++ visible style qs) none ∙ append-nil _ ∙ sym (visible-printable style text h)
+
+-- plain characters and no pieces
+pub plain-graphemes : (style : Style) (text : List ℕ) (ps : List (List ℕ)) → IsPlain text → ps ≡ []
+    → map (plain_grapheme style) (chars text) ++ visible style ps ≡ visible style (graphemes true text)
+unfolding visible
+plain-graphemes style text ps h none =
+    ap (λ qs. map (plain_grapheme style) (chars text) ++ visible style qs) none ∙ append-nil _ ∙ sym (visible-plain style text h)
 
 -- the first byte of a stretch
 pub stretch-next : (style : Style) (bytes : List ℕ) (at : ℕ) (rest : List Grapheme) → at < length bytes

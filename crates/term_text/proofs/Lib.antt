@@ -11,3 +11,4 @@ pub mod PlainLemmas
 pub mod PrintableLemmas
 pub mod StretchLemmas
 pub mod WidthLemmas
+pub mod FirstChar

@@ -4,7 +4,7 @@ use Rattle.std.proofs.lemmas.List.{length-map}
 use Rattle.term_text.specs.declared.graphs.Graphemes.{Graphemes}
 use Rattle.term_text.specs.declared.line_graphs.LineGraphemes.{LineGraphemes}
 use Rattle.term_text.specs.Cut.{leading_spaces}
-use Rattle.term_text.specs.Iter.{stretch_left, pieces_left, graphs_left}
+use Rattle.term_text.specs.Iter.{stretch_left, pieces_left, plain_left, graphs_left}
 use Rattle.term_text.specs.LineIter.{line_left}
 use Rattle.term_text.specs.Plain.{byte_grapheme}
 use Rattle.term_text.proofs.GraphLemmas.{drop-front}
@@ -61,11 +61,11 @@ drop-current n cur next rest h e = ap (λ gs. gs ++ rest) e ∙ sym (drop-front 
 -- a line begins with the printable bytes in front
 pub line_left-stretch : (s : LineGraphemes) → (rest : List Grapheme) × (line_left s ≡ map (byte_grapheme s.current.style) (stretch_left s.current) ++ rest)
 unfolding line_left graphs_left
-line_left-stretch s = (_, append_assoc (map (byte_grapheme s.current.style) (stretch_left s.current)) (visible s.current.style (pieces_left s.current)) (spans_graphs s.under (drop s.place s.spans.now)))
+line_left-stretch s = (_, append_assoc (map (byte_grapheme s.current.style) (stretch_left s.current)) (plain_left s.current ++ visible s.current.style (pieces_left s.current)) (spans_graphs s.under (drop s.place s.spans.now)))
 
 stretch_short : (s : Graphemes) → length (stretch_left s) ≤ length (graphs_left s)
 unfolding graphs_left
-stretch_short s = omega (arith, length-append (map (byte_grapheme s.style) (stretch_left s)) (visible s.style (pieces_left s)), length-map (stretch_left s) (byte_grapheme s.style))
+stretch_short s = omega (arith, length-append (map (byte_grapheme s.style) (stretch_left s)) (plain_left s ++ visible s.style (pieces_left s)), length-map (stretch_left s) (byte_grapheme s.style))
 
 pub within_stretch : (s : Graphemes) (n : ℕ) → n ≤ length (stretch_left s) → n ≤ length (graphs_left s)
 within_stretch s n h = omega (arith, stretch_short s)

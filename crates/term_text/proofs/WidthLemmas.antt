@@ -4,7 +4,7 @@ use Rattle.term_text.specs.declared.style.Style.{Style}
 use Rattle.term_text.specs.declared.graphs.Graphemes.{Graphemes}
 use Rattle.term_text.specs.declared.line_graphs.LineGraphemes.{LineGraphemes}
 use Rattle.term_text.specs.Graph.{Grapheme, visible, columns}
-use Rattle.term_text.specs.Iter.{stretch_left, pieces_left, graphs_left}
+use Rattle.term_text.specs.Iter.{stretch_left, pieces_left, plain_left, graphs_left}
 use Rattle.term_text.specs.LineIter.{line_left}
 use Rattle.term_text.specs.Plain.{byte_grapheme}
 use Rattle.term_text.specs.Wrap.{NoneWider}
@@ -20,7 +20,7 @@ columns-stretch style (b ∷ bs) rest =
 
 pub columns-graphs_left : (s : Graphemes) → columns (graphs_left s) ≡ length (stretch_left s) + columns (drop (length (stretch_left s)) (graphs_left s))
 unfolding graphs_left
-columns-graphs_left s = columns-stretch s.style (stretch_left s) (visible s.style (pieces_left s))
+columns-graphs_left s = columns-stretch s.style (stretch_left s) (plain_left s ++ visible s.style (pieces_left s))
 
 pub columns-line_left : (s : LineGraphemes)
     → columns (line_left s) ≡ length (stretch_left s.current) + columns (drop (length (stretch_left s.current)) (line_left s))

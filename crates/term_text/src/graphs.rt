@@ -1,13 +1,14 @@
 // The visible graphemes of a span.
-ghost use Rattle.std.specs.Prelude.{⊤, ◌≡◌, ◌≤◌, ◌<◌, ◌-◌, [], ◌∷◌, true, false, drop, length};
+ghost use Rattle.std.specs.Prelude.{⊤, MatchOption, ◌≡◌, ◌≤◌, ◌<◌, ◌-◌, [], ◌∷◌, true, false, drop, length};
 ghost use Rattle.std.specs.Iterator.{YieldsFirstBy, item_count};
 ghost use Rattle.std.specs.List.{list_all};
 ghost use Rattle.unicode_segmentation.specs.Grapheme.{graphemes};
 ghost use Rattle.term_text.specs.Graph.{visible, pieces_of};
-ghost use Rattle.term_text.specs.Plain.{is_printable};
+ghost use Rattle.term_text.specs.Plain.{IsPlain, is_printable};
 
 use crate::grapheme::Graph;
 use crate::pieces::graph_of;
+use crate::plain::first_char;
 use crate::style::Style;
 use crate::text::Span;
 use std::alloc::AllocError;
@@ -19,6 +20,8 @@ pub struct Graphemes<'a> {
     // A text of printable ASCII, whose bytes come first, and how many of them are passed.
     stretch: &'a str,
     passed: usize,
+    // Characters that are each a grapheme of one column, which come next.
+    plain: &'a str,
     glyph: Option<&'a str>,
     pieces: unicode_segmentation::Graphemes<'a>,
     style: Style,
@@ -27,7 +30,7 @@ pub struct Graphemes<'a> {
 }
 
 impl<'a> Graphemes<'a> {
-    ghost use Rattle.term_text.specs.Iter.{grapheme, pieces_left, stretch_left, graphs_left};
+    ghost use Rattle.term_text.specs.Iter.{grapheme, pieces_left, plain_left, stretch_left, graphs_left};
 
     /// The graphemes of the span, in the style.
     pub(crate) fn new(span: &'a Span<'_>, style: Style) -> Graphemes<'a>
@@ -39,6 +42,9 @@ impl<'a> Graphemes<'a> {
         }
         if span.is_printable() {
             return Graphemes::of_stretch(text, style);
+        }
+        if span.is_plain() {
+            return Graphemes::of_plain(text, style);
         }
         Graphemes::of_text(text, style)
     }
@@ -56,6 +62,7 @@ impl<'a> Graphemes<'a> {
         Graphemes {
             stretch: "",
             passed: 0,
+            plain: "",
             glyph: Some(text),
             pieces: "".graphemes(true),
             style,
@@ -69,6 +76,21 @@ impl<'a> Graphemes<'a> {
         Graphemes {
             stretch: text,
             passed: 0,
+            plain: "",
+            glyph: None,
+            pieces: "".graphemes(true),
+            style,
+        }
+    }
+
+    fn of_plain(text: &'a str, style: Style) -> Graphemes<'a>
+        requires { IsPlain text.now }
+        ensures { graphs_left result ≡ visible style (graphemes true text.now) }
+    {
+        Graphemes {
+            stretch: "",
+            passed: 0,
+            plain: text,
             glyph: None,
             pieces: "".graphemes(true),
             style,
@@ -81,6 +103,7 @@ impl<'a> Graphemes<'a> {
         Graphemes {
             stretch: "",
             passed: 0,
+            plain: "",
             glyph: None,
             pieces: text.graphemes(true),
             style,
@@ -97,6 +120,7 @@ impl<'a> Graphemes<'a> {
         Graphemes {
             stretch: self.stretch,
             passed: self.passed,
+            plain: self.plain,
             glyph: self.glyph,
             pieces,
             style: self.style,
@@ -136,9 +160,30 @@ impl<'a> Graphemes<'a> {
         }
     }
 
-    /// The first visible piece, behind the printable bytes.
-    fn next_shown(&mut self) -> Option<Graph<'a>>
+    /// The first of the plain characters, behind the printable bytes.
+    fn next_plain(&mut self) -> Option<Graph<'a>>
         requires { stretch_left self.old ≡ [] }
+        ensures { MatchOption result ((plain_left self.old ≡ []) × (self.new ≡ self.old))
+            (λ graph. graphs_left self.old ≡ grapheme graph ∷ graphs_left self.new) }
+    {
+        match first_char(self.plain) {
+            None => None,
+            Some((c, symbol, rest)) => {
+                self.plain = rest;
+                Some(Graph {
+                    symbol,
+                    style: self.style,
+                    width: 1,
+                    blank: c == ' ',
+                })
+            }
+        }
+    }
+
+    /// The first visible piece, behind the printable bytes and the plain characters.
+    fn next_shown(&mut self) -> Option<Graph<'a>>
+        requires stretch { stretch_left self.old ≡ [] }
+        requires plain { plain_left self.old ≡ [] }
         ensures { YieldsFirstBy grapheme graphs_left self.old result self.new }
     {
         while let Some(piece) = self.next_piece() {
@@ -153,6 +198,7 @@ impl<'a> Graphemes<'a> {
         ensures piece { YieldsFirstBy (λ piece. piece.now) pieces_left self.old result self.new }
         ensures style { self.new.style ≡ self.old.style }
         ensures stretch { stretch_left self.new ≡ stretch_left self.old }
+        ensures plain { plain_left self.new ≡ plain_left self.old }
     {
         if let Some(text) = self.glyph.take() {
             return Some(text);
@@ -185,6 +231,9 @@ impl<'a> Iterator for Graphemes<'a> {
     fn next(&mut self) -> Option<Graph<'a>> {
         if self.passed < self.stretch.len() {
             return Some(self.next_byte());
+        }
+        if let Some(graph) = self.next_plain() {
+            return Some(graph);
         }
         self.next_shown()
     }

@@ -10,6 +10,7 @@ pub mod laws;
 mod line_ends;
 mod line_graphs;
 mod pieces;
+mod plain;
 mod printable;
 mod stack;
 mod steps;

@@ -1,12 +1,13 @@
 // Spans, lines and texts.
-ghost use Rattle.std.specs.Prelude.{ℕ, ◌≡◌, ◌==◌, ◌+◌, ◌^◌, ◌<◌, List, [], ◌∷◌, ◌++◌, length, true, false, IfOk, OnOk, OnErr, if◌then◌else◌};
+ghost use Rattle.std.specs.Prelude.{ℕ, ◌≡◌, ◌==◌, ◌+◌, ◌^◌, ◌<◌, List, [], ◌∷◌, ◌++◌, chars, length, true, false, IfOk, OnOk, OnErr, if◌then◌else◌};
 ghost use Rattle.term_text.specs.Text.{SpanView, LineView, raw_spans};
 ghost use Rattle.std.specs.List.{list_all};
 ghost use Rattle.std.specs.Str.Lines.{lines};
-ghost use Rattle.term_text.specs.Plain.{is_printable};
+ghost use Rattle.term_text.specs.Plain.{is_plain, is_printable};
 ghost use Rattle.term_text.specs.Style.{no_style};
 
 use crate::cow_str::CowStr;
+use crate::plain::all_plain;
 use crate::printable::all_printable;
 use crate::style::Style;
 use std::alloc::{AllocError, Global};
@@ -18,8 +19,9 @@ pub struct Span<'a> {
     text: CowStr<'a>,
     style: Style,
     is_glyph: bool,
-    // Whether the text is printable ASCII, which is asked once.
+    // Whether the text is printable ASCII, and whether its characters are plain, which is asked once.
     printable: bool,
+    plain: bool,
 }
 
 impl<'a> Model for Span<'a> {
@@ -29,11 +31,11 @@ impl<'a> Model for Span<'a> {
 
     ghost view = { λ s. record { text = s.text; style = s.style; is_glyph = s.is_glyph } };
 
-    ghost use Rattle.std.specs.Prelude.{◌≡◌};
+    ghost use Rattle.std.specs.Prelude.{◌≡◌, chars};
     ghost use Rattle.std.specs.List.{list_all};
-    ghost use Rattle.term_text.specs.Plain.{is_printable};
+    ghost use Rattle.term_text.specs.Plain.{is_plain, is_printable};
 
-    ghost invariant = { λ s. s.printable ≡ list_all is_printable s.text };
+    ghost invariant = { λ s. (s.printable ≡ list_all is_printable s.text) × (s.plain ≡ list_all is_plain (chars s.text)) };
 }
 
 impl<'a> Span<'a> {
@@ -48,25 +50,27 @@ impl<'a> Span<'a> {
     pub fn styled(text: CowStr<'a>, style: Style) -> Span<'a>
         ensures { result ≡ record { text = text.entry; style = style; is_glyph = false } }
     {
-        let printable = all_printable(text.as_str().as_bytes());
-        Span {
-            text,
-            style,
-            is_glyph: false,
-            printable,
-        }
+        Span::new(text, style, false)
     }
 
     /// A text that is one grapheme, in a style.
     pub fn glyph(text: CowStr<'a>, style: Style) -> Span<'a>
         ensures { result ≡ record { text = text.entry; style = style; is_glyph = true } }
     {
+        Span::new(text, style, true)
+    }
+
+    fn new(text: CowStr<'a>, style: Style, is_glyph: bool) -> Span<'a>
+        ensures { result ≡ record { text = text.entry; style = style; is_glyph = is_glyph } }
+    {
         let printable = all_printable(text.as_str().as_bytes());
+        let plain = printable || all_plain(text.as_str());
         Span {
             text,
             style,
-            is_glyph: true,
+            is_glyph,
             printable,
+            plain,
         }
     }
 
@@ -78,6 +82,7 @@ impl<'a> Span<'a> {
             text,
             is_glyph,
             printable,
+            plain,
             ..
         } = self;
         Span {
@@ -85,6 +90,7 @@ impl<'a> Span<'a> {
             style,
             is_glyph,
             printable,
+            plain,
         }
     }
 
@@ -121,6 +127,13 @@ impl<'a> Span<'a> {
         ensures { result ≡ list_all is_printable self.now.text }
     {
         self.printable
+    }
+
+    /// Whether each character of the text is printable ASCII or a box-drawing character.
+    pub(crate) fn is_plain(&self) -> bool
+        ensures { result ≡ list_all is_plain (chars self.now.text) }
+    {
+        self.plain
     }
 }
 

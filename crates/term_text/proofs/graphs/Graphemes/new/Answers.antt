@@ -15,6 +15,12 @@ returns-then-is_printable c =
     c.of_stretch.ensures ∙ ap (λ text. visible c.args.style (graphemes true text)) c.text-text.ensures
     ∙ ap (λ b. visible c.args.style (cond b (s.text ∷ []) (graphemes true s.text))) c.if-is_glyph.ensures
 
+pub returns-then-is_plain : goal.returns-then-is_plain
+returns-then-is_plain c =
+    let s = c.args.span.now in
+    c.of_plain.ensures ∙ ap (λ text. visible c.args.style (graphemes true text)) c.text-text.ensures
+    ∙ ap (λ b. visible c.args.style (cond b (s.text ∷ []) (graphemes true s.text))) c.if-is_glyph.ensures
+
 pub returns : goal.returns
 returns c =
     let s = c.args.span.now in

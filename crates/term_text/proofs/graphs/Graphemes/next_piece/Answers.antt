@@ -1,6 +1,6 @@
 use Rattle.std.proofs.Common.{arith}
 use Rattle.std.proofs.lemmas.Grind.{common_steps}
-use Rattle.term_text.specs.Iter.{pieces_left, stretch_left}
+use Rattle.term_text.specs.Iter.{pieces_left, plain_left, stretch_left}
 use Rattle.term_text.proofs.graphs.Graphemes.next_piece.Goals as goal
 
 pub returns-in-Some-clause-piece : goal.returns-in-Some-clause-piece
@@ -18,3 +18,11 @@ returns-in-Some-clause-stretch c = grind (arith, common_steps)
 pub returns-clause-stretch : goal.returns-clause-stretch
 unfolding stretch_left
 returns-clause-stretch c = grind (arith, common_steps)
+
+pub returns-in-Some-clause-plain : goal.returns-in-Some-clause-plain
+unfolding plain_left
+returns-in-Some-clause-plain c = grind (arith, common_steps)
+
+pub returns-clause-plain : goal.returns-clause-plain
+unfolding plain_left
+returns-clause-plain c = grind (arith, common_steps)

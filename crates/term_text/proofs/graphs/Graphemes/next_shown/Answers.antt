@@ -1,28 +1,35 @@
 use Rattle.std.proofs.Common.{ap, ◌∙◌, sym, ◌≡◌, ◌∷◌}
 use Rattle.term_text.specs.Iter.{graphs_left, grapheme}
 use Rattle.term_text.specs.Graph.{grapheme_of}
-use Rattle.term_text.proofs.GraphLemmas.{graphs_left-hidden, graphs_left-shown, graphs_left-end}
+use Rattle.term_text.proofs.GraphLemmas.{AtPieces, graphs_left-hidden, graphs_left-shown, graphs_left-end}
 use Rattle.term_text.proofs.graphs.Graphemes.next_shown.Goals as goal
 
 pub returns-in-Some-graph_of : goal.returns-in-Some-graph_of
 returns-in-Some-graph_of c =
     let found = c.in-Some-graph_of.ensures in
-    let step = graphs_left-shown _ _ _ c.loop-piece.invariant.1 (c.in-Some.ensures.stretch ∙ c.loop-piece.invariant.1) c.in-Some.ensures.piece c.in-Some.ensures.style found.0 in
+    let none = c.loop-piece.invariant in
+    let before : AtPieces c.loop-piece.self = record { stretch = none.1; plain = none.2 } in
+    let after : AtPieces c.next_piece.new.self = record { stretch = c.in-Some.ensures.stretch ∙ none.1; plain = c.in-Some.ensures.plain ∙ none.2 } in
+    let step = graphs_left-shown _ _ _ before after c.in-Some.ensures.piece c.in-Some.ensures.style found.0 in
     let same : grapheme c.in-Some-graph_of.graph ≡ grapheme_of c.loop-piece.self.style c.in-Some.piece.now =
     found.1 ∙ ap (λ y. grapheme_of y c.in-Some.piece.now) c.in-Some.ensures.style in
-    sym c.loop-piece.invariant.0 ∙ step ∙ ap (λ g. g ∷ graphs_left c.next_piece.new.self) (sym same)
+    sym none.0 ∙ step ∙ ap (λ g. g ∷ graphs_left c.next_piece.new.self) (sym same)
 
 pub loop-piece-preserved : goal.loop-piece-preserved
 loop-piece-preserved c =
-    let after = c.in-Some.ensures.stretch ∙ c.loop-piece.invariant.1 in (
-      graphs_left-hidden _ _ _ c.loop-piece.invariant.1 after c.in-Some.ensures.piece c.in-Some.ensures.style c.in_default-graph_of.ensures
-          ∙ c.loop-piece.invariant.0,
-      after,
+    let none = c.loop-piece.invariant in
+    let before : AtPieces c.loop-piece.self = record { stretch = none.1; plain = none.2 } in
+    let after : AtPieces c.next_piece.new.self = record { stretch = c.in-Some.ensures.stretch ∙ none.1; plain = c.in-Some.ensures.plain ∙ none.2 } in (
+      graphs_left-hidden _ _ _ before after c.in-Some.ensures.piece c.in-Some.ensures.style c.in_default-graph_of.ensures ∙ none.0,
+      after.stretch,
+      after.plain,
     )
 
 pub returns : goal.returns
 returns c =
-    let none = c.loop-piece.invariant.1 in (
-      sym c.loop-piece.invariant.0 ∙ graphs_left-end _ none c.in_default.ensures.piece.0,
-      graphs_left-end _ (c.in_default.ensures.stretch ∙ none) c.in_default.ensures.piece.1,
+    let none = c.loop-piece.invariant in
+    let before : AtPieces c.loop-piece.self = record { stretch = none.1; plain = none.2 } in
+    let after : AtPieces c.next_piece.new.self = record { stretch = c.in_default.ensures.stretch ∙ none.1; plain = c.in_default.ensures.plain ∙ none.2 } in (
+      sym none.0 ∙ graphs_left-end _ before c.in_default.ensures.piece.0,
+      graphs_left-end _ after c.in_default.ensures.piece.1,
     )

@@ -1,7 +1,8 @@
 use Rattle.std.proofs.Common.{refl}
-use Rattle.term_text.specs.Iter.{graphs_left, pieces_left, stretch_left}
+use Rattle.std.proofs.lemmas.Str.{chars-nil}
+use Rattle.term_text.specs.Iter.{graphs_left, pieces_left, plain_left, stretch_left}
 use Rattle.term_text.proofs.graphs.Graphemes.of_text.Goals as goal
 
 pub returns : goal.returns
-unfolding graphs_left pieces_left stretch_left
-returns c = rw c.graphemes.ensures.left refl
+unfolding graphs_left pieces_left plain_left stretch_left
+returns c = rw (c.graphemes.ensures.left, chars-nil) refl

@@ -1,6 +1,6 @@
 use Rattle.std.proofs.Common.{◌≡◌, ◌≤◌, ◌+◌, ◌-◌, length, drop, map, ◌++◌, ap, sym, ◌∙◌, arith, rules, length-drop, drop-drop, ℕ}
 use Rattle.term_text.specs.Graph.{visible}
-use Rattle.term_text.specs.Iter.{stretch_left, graphs_left, pieces_left}
+use Rattle.term_text.specs.Iter.{stretch_left, graphs_left, pieces_left, plain_left}
 use Rattle.term_text.specs.Plain.{byte_grapheme}
 use Rattle.term_text.proofs.GraphLemmas.{drop-stretch}
 use Rattle.term_text.proofs.graphs.Graphemes.pass_stretch.Goals as goal
@@ -26,10 +26,10 @@ invariant_of-self c =
     record { printable = s.printable; within = omega arith }
 
 pub returns : goal.returns
-unfolding stretch_left graphs_left pieces_left
+unfolding stretch_left graphs_left pieces_left plain_left
 returns c =
     let s = c.args.self.now in
     let more : drop (s.passed + c.args.n) s.stretch.now ≡ drop c.args.n (drop s.passed s.stretch.now) =
     ap (λ (k : ℕ). drop k s.stretch.now) (omega arith) ∙ sym (drop-drop c.args.n s.passed s.stretch.now) in
-    ap (λ bs. map (byte_grapheme s.style) bs ++ visible s.style (pieces_left s)) more
-    ∙ sym (drop-stretch s.style c.args.n (drop s.passed s.stretch.now) (visible s.style (pieces_left s)) c.requires)
+    ap (λ bs. map (byte_grapheme s.style) bs ++ (plain_left s ++ visible s.style (pieces_left s))) more
+    ∙ sym (drop-stretch s.style c.args.n (drop s.passed s.stretch.now) (plain_left s ++ visible s.style (pieces_left s)) c.requires)
