@@ -157,6 +157,20 @@ fn texts_are_borrowed_or_owned(rt: HostRuntime) -> Result<(), Fail> {
 }
 
 #[test]
+fn copies_of_spans_borrow_or_own_their_texts(rt: HostRuntime) -> Result<(), Fail> {
+    let glyph = Span::glyph(CowStr::borrowed("ab"), Style::new().red());
+    let copy = glyph.try_clone(rt.alloc())?;
+    assert_eq!(rt; copy.cow().as_borrowed(), Some("ab"));
+    let owned = copy.try_to_owned(rt.alloc())?;
+    assert!(rt; owned.cow().as_borrowed().is_none());
+    assert!(rt; owned.is_glyph());
+    let mut line = Line::new(rt.alloc());
+    line.push_span(owned)?;
+    assert_eq!(rt; line.into_spans().len(), 1);
+    Ok(())
+}
+
+#[test]
 fn the_last_item_is_the_top(rt: HostRuntime) -> Result<(), Fail> {
     let mut stack = Stack::new(rt.alloc());
     stack.push(1u8)?;

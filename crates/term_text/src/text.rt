@@ -135,6 +135,36 @@ impl<'a> Span<'a> {
     {
         self.plain
     }
+
+    /// The same span again, whose text is borrowed where it is borrowed here, or want of memory.
+    pub fn try_clone(&self, alloc: Global) -> Result<Span<'a>, AllocError>
+        ensures { IfOk result (λ copy. copy ≡ self.now) }
+    {
+        let text = self.text.try_clone(alloc)?;
+        Ok(self.with_copy(text))
+    }
+
+    /// The same span again, which owns its text, or want of memory.
+    pub fn try_to_owned(&self, alloc: Global) -> Result<Span<'static>, AllocError>
+        ensures { IfOk result (λ copy. copy ≡ self.now) }
+    {
+        let text = String::from_str(alloc, self.text())?;
+        Ok(self.with_copy(CowStr::owned(text)))
+    }
+
+    /// The same span round a copy of its text.
+    fn with_copy<'c>(&self, text: CowStr<'c>) -> Span<'c>
+        requires { text ≡ self.now.text }
+        ensures { result ≡ self.now }
+    {
+        Span {
+            text,
+            style: self.style,
+            is_glyph: self.is_glyph,
+            printable: self.printable,
+            plain: self.plain,
+        }
+    }
 }
 
 /// Spans, none of them empty, over one style.
@@ -206,6 +236,14 @@ impl<'a> Line<'a> {
         ensures { result.now ≡ self.now.spans }
     {
         self.spans.as_slice()
+    }
+
+    /// The spans, without the style under them. It takes no memory.
+    pub fn into_spans(self) -> Vec<Span<'a>>
+        ensures { result.items ≡ self.entry.spans }
+    {
+        let Line { spans, .. } = self;
+        spans
     }
 }
 
