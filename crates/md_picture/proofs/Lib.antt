@@ -8,3 +8,4 @@ pub mod Spans
 pub mod Glyphs
 pub mod Lines
 pub mod Keeping
+pub mod Blanks

@@ -2,7 +2,7 @@
 ghost use Rattle.std.specs.Prelude.{◌≡◌, ◌<◌, ◌++◌, ◌∷◌, [], IfOk, OnOk, length, string_bytes};
 ghost use Rattle.md_picture.specs.Picture.{bar, border_line, border_text, cross_of, left_of, lengthened, right_of, stroke, strokes};
 
-use crate::columns::Column;
+use crate::columns::{Column, picture_width};
 use std::alloc::{AllocError, Global};
 use term_text::{CowStr, Line, Span, Style};
 
@@ -77,11 +77,12 @@ pub(crate) fn border_line<'a>(
     Ok(line)
 }
 
-/// The text of a border line.
+/// The text of a border line. A character of it takes one column, and as many bytes as a stroke.
 fn border_text(alloc: Global, edge: Edge, columns: &[Column]) -> Result<String, AllocError>
     ensures { IfOk result (λ text. string_bytes text ≡ border_text edge columns.now) }
 {
-    let mut text = String::new(alloc);
+    let capacity = picture_width(columns)?.saturating_mul("─".len());
+    let mut text = String::with_capacity(alloc, capacity)?;
     push_border(&mut text, edge, columns)?;
     Ok(text)
 }

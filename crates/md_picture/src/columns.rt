@@ -2,6 +2,7 @@
 ghost use Rattle.std.specs.Prelude.{◌≡◌, ◌≤◌, ◌++◌, ◌∷◌, [], IfOk, OnOk, drop, length, take};
 ghost use Rattle.md_picture.specs.Cells.{bounds_of, with_row};
 ghost use Rattle.md_picture.specs.Picture.{budget_of, columns_of, widths_of};
+ghost use Rattle.md_picture.specs.Widths.{picture_width};
 
 use crate::cell::bounded;
 use crate::table::Row;
@@ -107,4 +108,18 @@ pub(crate) fn columns_of(
         })?;
     }
     Ok(columns)
+}
+
+/// The columns of cells that a line of the picture takes; want of memory where no `usize` counts them.
+pub(crate) fn picture_width(columns: &[Column]) -> Result<usize, AllocError>
+    ensures { IfOk result (λ width. width ≡ picture_width columns.now) }
+{
+    let mut width = 1usize;
+    for column in columns {
+        match width.checked_add(column.width.saturating_add(3)) {
+            Some(more) => width = more,
+            None => return Err(AllocError),
+        }
+    }
+    Ok(width)
 }

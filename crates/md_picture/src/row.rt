@@ -1,5 +1,5 @@
 // The lines of a row of a table.
-ghost use Rattle.std.specs.Prelude.{◌≡◌, ◌++◌, ◌∷◌, [], ◌-◌, ◌≤◌, IfOk, OnOk, drop, replicate};
+ghost use Rattle.std.specs.Prelude.{◌≡◌, ◌++◌, ◌∷◌, [], ◌+◌, ◌-◌, ◌≤◌, IfOk, OnOk, drop, replicate};
 ghost use Rattle.term_text.specs.Style.{no_style};
 ghost use Rattle.term_text.specs.Graph.{graphs};
 ghost use Rattle.term_text.specs.Wrap.{NoneWider};
@@ -13,6 +13,13 @@ use crate::columns::Column;
 use std::alloc::{AllocError, Global};
 use std::vec::IntoIter;
 use term_text::{Alignment, CowStr, Line, Span, Style};
+
+/// 256 blanks, of which pads are borrowed. An escape begins each row, since blanks behind a broken row are skipped.
+const BLANKS: &str = "\
+\x20                                                               \
+\x20                                                               \
+\x20                                                               \
+\x20                                                               ";
 
 /// The lines of a row whose cells are in this style.
 pub(crate) fn row_lines<'a>(
@@ -223,10 +230,20 @@ fn left_room(alignment: Alignment, room: usize) -> usize
 fn pad<'a>(alloc: Global, room: usize, style: Style) -> Result<Span<'a>, AllocError>
     ensures { IfOk result (λ span. span ≡ pad room style) }
 {
-    let mut blanks = String::new(alloc);
-    for i in 0..room {
-        blanks.push(' ')?;
+    Ok(Span::styled(blanks(alloc, room)?, style))
+}
+
+/// So many blanks, and one more; they are borrowed unless there are many.
+fn blanks<'a>(alloc: Global, room: usize) -> Result<CowStr<'a>, AllocError>
+    ensures { IfOk result (λ text. text ≡ replicate (room + 1) 32) }
+{
+    if room < BLANKS.len() {
+        return Ok(CowStr::borrowed(&BLANKS[..room + 1]));
     }
-    blanks.push(' ')?;
-    Ok(Span::styled(CowStr::owned(blanks), style))
+    let mut text = String::with_capacity(alloc, room.saturating_add(1))?;
+    for i in 0..room {
+        text.push(' ')?;
+    }
+    text.push(' ')?;
+    Ok(CowStr::owned(text))
 }

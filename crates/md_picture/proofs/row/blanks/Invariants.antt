@@ -1,5 +1,5 @@
 use Rattle.std.proofs.Common.{◌≡◌, replicate, string_bytes}
-use Rattle.md_picture.proofs.row.pad.Given as goal
+use Rattle.md_picture.proofs.row.blanks.Given as goal
 
 abbrev pub invariant-loop-i : goal.invariant-loop-i
-invariant-loop-i l = string_bytes l.blanks ≡ replicate l.i 32
+invariant-loop-i l = string_bytes l.text ≡ replicate l.i 32
