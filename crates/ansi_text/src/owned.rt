@@ -3,19 +3,7 @@ ghost use Rattle.std.specs.Prelude.{◌≡◌, IfOk, true};
 ghost use Rattle.ansi_text.specs.Lines.{all_filled, is_filled};
 
 use std::alloc::{AllocError, Global};
-use term_text::{CowStr, Line, Span, Text};
-
-/// The same span, which owns its text.
-fn owned_span(alloc: Global, span: &Span<'_>) -> Result<Span<'static>, AllocError>
-    ensures { IfOk result (λ copy. copy ≡ span.now) }
-{
-    let text = CowStr::owned(String::from_str(alloc, span.text())?);
-    Ok(if span.is_glyph() {
-        Span::glyph(text, span.style())
-    } else {
-        Span::styled(text, span.style())
-    })
-}
+use term_text::{Line, Text};
 
 /// The same line, whose spans own their texts; none of them is empty.
 pub(crate) fn owned_line(alloc: Global, line: &Line<'_>) -> Result<Line<'static>, AllocError>
@@ -25,7 +13,7 @@ pub(crate) fn owned_line(alloc: Global, line: &Line<'_>) -> Result<Line<'static>
     let mut copy = Line::new(alloc);
     copy.set_style(line.style());
     for span in line.spans() {
-        copy.push_span(owned_span(alloc, span)?)?;
+        copy.push_span(span.try_to_owned(alloc)?)?;
     }
     Ok(copy)
 }

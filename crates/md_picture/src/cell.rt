@@ -119,27 +119,15 @@ fn glyphs<'a>(alloc: Global, row: &Row) -> Result<Part<'a>, AllocError>
     Ok(Part { spans })
 }
 
-/// The spans of a cell.
+/// The spans of a cell; their texts are copied only where they are owned.
 fn whole<'a>(alloc: Global, cell: &Line<'a>) -> Result<Part<'a>, AllocError>
     ensures { IfOk result (λ part. part ≡ cell.now.spans) }
 {
     let mut spans = Vec::with_capacity(alloc, cell.spans().len())?;
     for span in cell.spans() {
-        spans.push(copied(alloc, span)?)?;
+        spans.push(span.try_clone(alloc)?)?;
     }
     Ok(Part { spans })
-}
-
-/// The same span again; its text is copied only where it is owned.
-fn copied<'a>(alloc: Global, span: &Span<'a>) -> Result<Span<'a>, AllocError>
-    ensures { IfOk result (λ copy. copy ≡ span.now) }
-{
-    let text = span.cow().try_clone(alloc)?;
-    if span.is_glyph() {
-        Ok(Span::glyph(text, span.style()))
-    } else {
-        Ok(Span::styled(text, span.style()))
-    }
 }
 
 /// A grapheme as a span of its own.

@@ -1,5 +1,5 @@
 // What blocks of code lay out.
-ghost use Rattle.std.specs.Prelude.{◌≡◌, OnOk, IfOk, string_bytes};
+ghost use Rattle.std.specs.Prelude.{◌≡◌, OnOk, string_bytes};
 ghost use Rattle.std.specs.Str.Lines.{lines};
 ghost use Rattle.md_text.specs.Look.{look_of};
 ghost use Rattle.md_text.specs.Laid.{each_laid, put_all};
@@ -13,7 +13,7 @@ use crate::options::Options;
 use ansi_text::{Error, IntoText};
 use md_events::CodeBlockKind;
 use md_table::StyleSheet;
-use std::alloc::{AllocError, Global};
+use std::alloc::AllocError;
 use term_text::{CowStr, Line, Span, Style};
 
 impl<'e, 'a> Machine<'e, 'a> {
@@ -144,23 +144,10 @@ impl<'e, 'a> Machine<'e, 'a> {
         ensures { OnOk result (self.new ≡ laid self.old (put_all self.old.spacing spans.now)) }
     {
         for span in spans {
-            let copy = copied(self.alloc, span)?;
-            self.put(copy)?;
+            self.put(span.try_to_owned(self.alloc)?)?;
         }
         Ok(())
     }
-}
-
-/// The same span, which owns its text.
-fn copied(alloc: Global, span: &Span) -> Result<Span<'static>, AllocError>
-    ensures { IfOk result (λ copy. copy ≡ span.now) }
-{
-    let text = CowStr::owned(String::from_str(alloc, span.text())?);
-    Ok(if span.is_glyph() {
-        Span::glyph(text, span.style())
-    } else {
-        Span::styled(text, span.style())
-    })
 }
 
 fn info<'s>(kind: &'s CodeBlockKind) -> &'s str

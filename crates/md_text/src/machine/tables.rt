@@ -14,7 +14,7 @@ use crate::marker::blanks;
 use crate::options::Options;
 use md_events::{Event, Tag};
 use md_table::{StyleSheet, TableBuilder};
-use std::alloc::{AllocError, Global};
+use std::alloc::AllocError;
 use std::mem;
 use term_text::{CowStr, Line, Span, Style};
 
@@ -111,13 +111,13 @@ impl<'e, 'a> Machine<'e, 'a> {
     {
         self.join()?;
         let picture = table_picture(options, self.environment, builder)?;
-        self.picture_lines(picture.as_slice())?;
+        self.picture_lines(picture)?;
         self.spacing.due = true;
         Ok(())
     }
 
-    fn picture_lines(&mut self, picture: &[Line<'a>]) -> Result<(), AllocError>
-        ensures { OnOk result (self.new ≡ laid self.old (each_laid (picture_line self.old.environment) self.old.spacing picture.now)) }
+    fn picture_lines(&mut self, picture: Vec<Line<'a>>) -> Result<(), AllocError>
+        ensures { OnOk result (self.new ≡ laid self.old (each_laid (picture_line self.old.environment) self.old.spacing picture.entry.items)) }
     {
         for line in picture {
             self.picture_line(line)?;
@@ -125,11 +125,11 @@ impl<'e, 'a> Machine<'e, 'a> {
         Ok(())
     }
 
-    fn picture_line(&mut self, line: &Line<'a>) -> Result<(), AllocError>
-        ensures { OnOk result (self.new ≡ laid self.old (picture_line self.old.environment self.old.spacing line.now)) }
+    fn picture_line(&mut self, line: Line<'a>) -> Result<(), AllocError>
+        ensures { OnOk result (self.new ≡ laid self.old (picture_line self.old.environment self.old.spacing line.entry)) }
     {
         self.begin_picture_line()?;
-        self.put_all(line.spans())
+        self.put_all(line.into_spans())
     }
 
     /// Begins a line, and inside an item its blanks; the first line of a picture stands on the line of a fresh marker.
@@ -156,28 +156,15 @@ impl<'e, 'a> Machine<'e, 'a> {
         Ok(())
     }
 
-    /// Adds spans to the last line; their texts are copied only where they are owned.
-    fn put_all(&mut self, spans: &[Span<'a>]) -> Result<(), AllocError>
-        ensures { OnOk result (self.new ≡ laid self.old (put_all self.old.spacing spans.now)) }
+    /// Adds spans to the last line.
+    fn put_all(&mut self, spans: Vec<Span<'a>>) -> Result<(), AllocError>
+        ensures { OnOk result (self.new ≡ laid self.old (put_all self.old.spacing spans.entry.items)) }
     {
         for span in spans {
-            let copy = copied(self.alloc, span)?;
-            self.put(copy)?;
+            self.put(span)?;
         }
         Ok(())
     }
-}
-
-/// The same span, which owns its text only where the other one does.
-fn copied<'a>(alloc: Global, span: &Span<'a>) -> Result<Span<'a>, AllocError>
-    ensures { IfOk result (λ copy. copy ≡ span.now) }
-{
-    let text = span.cow().try_clone(alloc)?;
-    Ok(if span.is_glyph() {
-        Span::glyph(text, span.style())
-    } else {
-        Span::styled(text, span.style())
-    })
 }
 
 /// The lines of the picture of the table that was built, in what there is of the width that is set.
