@@ -1,5 +1,5 @@
 -- The bars of a text, one by one.
-use Rattle.std.proofs.Common.{List, [], ◌∷◌, ◌++◌, ◌≢◌, length, take, drop, get_or, ◌≡◌, ◌≤◌, ◌<◌, ◌+◌, ◌-◌, ℕ, suc, refl, sym, ap, ◌∙◌, arith, true, false, Bool, cond, not, ◌&&◌, ◌||◌, nat_lt}
+use Rattle.std.proofs.Common.{List, [], ◌∷◌, ◌++◌, ◌≢◌, length, take, drop, get_or, ◌≡◌, ◌≤◌, ◌<◌, ◌==◌, ◌+◌, ◌-◌, ℕ, suc, refl, sym, ap, ◌∙◌, arith, true, false, Bool, cond, not, ◌&&◌, ◌||◌, nat_lt}
 use Rattle.std.specs.Str.{IsCharBoundary, IsUtf8}
 use Rattle.std.proofs.lemmas.Bool.{false≢true}
 use Rattle.std.proofs.lemmas.List.{length-map}
@@ -40,6 +40,16 @@ has_bar-before escaped (b ∷ bs) = go (is_bar escaped b) (has_bar-before (escap
     go : (v : Bool) → has_bar (escapes b) bs ≡ nat_lt (before_bar (escapes b) bs) (length bs) → (v || has_bar (escapes b) bs) ≡ nat_lt (cond v 0 (suc (before_bar (escapes b) bs))) (suc (length bs))
     go true h = sym (nat_lt-some (length bs))
     go false h = h ∙ sym (nat_lt-suc (before_bar (escapes b) bs) (length bs))
+
+-- no bar cuts where none stands
+pub has_bar-none : (escaped : Bool) (bs : List ℕ) → ((j : ℕ) → j < length bs → (get_or bs j 0 == 124) ≡ true → ⊥) → has_bar escaped bs ≡ false
+unfolding has_bar
+has_bar-none escaped [] none = refl
+has_bar-none escaped (b ∷ bs) none = go (b == 124) refl (has_bar-none (escapes b) bs (λ j below is. none (suc j) (omega arith) is))
+  where
+    go : (v : Bool) → (b == 124) ≡ v → has_bar (escapes b) bs ≡ false → ((v && not escaped) || has_bar (escapes b) bs) ≡ false
+    go true e h = absurd (none 0 (omega arith) e)
+    go false e h = h
 
 -- the part before the first bar, and those behind it
 pub parts-first : (escaped : Bool) (bs : List ℕ) → before_bar escaped bs < length bs → parts escaped bs ≡ take (before_bar escaped bs) bs ∷ parts false (drop (before_bar escaped bs + 1) bs)

@@ -6,6 +6,7 @@ ghost use Rattle.md_rules.specs.Cells.{AreOneLine, before_bar, escapes_behind, p
 
 use crate::texts::{after_first, begins_with, trimmed};
 use md_lines::Line;
+use memchr::memchr;
 use std::marker::Model;
 
 /// Whether the byte is a bar that cuts.
@@ -37,11 +38,14 @@ fn before_bar(bytes: &[u8]) -> usize
     at
 }
 
-/// Whether a bar stands in the bytes that cuts.
+/// Whether a bar stands in the bytes that cuts. Bytes with no bar at all are not walked one by one.
 pub(crate) fn has_bar(bytes: &[u8]) -> bool
     ensures { result ≡ has_bar false bytes.now }
 {
-    before_bar(bytes) < bytes.len()
+    match memchr(b'|', bytes) {
+        Some(_) => before_bar(bytes) < bytes.len(),
+        None => false,
+    }
 }
 
 /// Whether a bar directly behind these bytes does not cut.
