@@ -12,3 +12,4 @@ pub mod PrintableLemmas
 pub mod StretchLemmas
 pub mod WidthLemmas
 pub mod FirstChar
+pub mod SolidLemmas

@@ -13,3 +13,4 @@ pub mod Cut
 pub mod Rows
 pub mod Stack
 pub mod Walk
+pub mod Solid

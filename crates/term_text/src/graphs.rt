@@ -5,10 +5,11 @@ ghost use Rattle.std.specs.List.{list_all};
 ghost use Rattle.unicode_segmentation.specs.Grapheme.{graphemes};
 ghost use Rattle.term_text.specs.Graph.{visible, pieces_of};
 ghost use Rattle.term_text.specs.Plain.{IsPlain, is_printable};
+ghost use Rattle.term_text.specs.Solid.{AreSolid};
 
 use crate::grapheme::Graph;
 use crate::pieces::graph_of;
-use crate::plain::first_char;
+use crate::plain::{first_char, solid_count};
 use crate::style::Style;
 use crate::text::Span;
 use std::alloc::AllocError;
@@ -157,6 +158,22 @@ impl<'a> Graphemes<'a> {
             style: self.style,
             width: 1,
             blank,
+        }
+    }
+
+    /// Passes over the plain characters in front, if they are at most so many and none is a space, and tells how many.
+    pub(crate) fn pass_solid(&mut self, most: usize) -> usize
+        requires { stretch_left self.old ≡ [] }
+        ensures solid { AreSolid result (graphs_left self.old) (graphs_left self.new) }
+        ensures none { result ≡ 0 → graphs_left self.new ≡ graphs_left self.old }
+        ensures within { result ≤ most }
+    {
+        match solid_count(self.plain) {
+            Some(count) if count <= most => {
+                self.plain = "";
+                count
+            }
+            _ => 0,
         }
     }
 

@@ -1,9 +1,10 @@
 // The visible graphemes of a line.
-ghost use Rattle.std.specs.Prelude.{⊤, ◌≡◌, ◌==◌, ◌≤◌, ◌<◌, true, false, length, drop};
+ghost use Rattle.std.specs.Prelude.{⊤, [], ◌≡◌, ◌==◌, ◌≤◌, ◌<◌, true, false, length, drop};
 ghost use Rattle.std.specs.Iterator.{YieldsFirstBy, item_count};
 ghost use Rattle.term_text.specs.Graph.{graphs, spans_graphs};
 ghost use Rattle.term_text.specs.Iter.{grapheme, stretch_left, graphs_left};
 ghost use Rattle.term_text.specs.LineIter.{line_left};
+ghost use Rattle.term_text.specs.Solid.{AreSolid};
 ghost use Rattle.term_text.specs.Wrap.{skip_blanks};
 
 use crate::grapheme::Graph;
@@ -60,6 +61,16 @@ impl<'t, 'a> LineGraphemes<'t, 'a> {
         ensures { line_left self.new ≡ drop n (line_left self.old) }
     {
         self.current.pass_stretch(n);
+    }
+
+    /// Passes over the plain characters in front, if they are at most so many and none is a space, and tells how many.
+    pub(crate) fn pass_solid(&mut self, most: usize) -> usize
+        requires { stretch_left self.old.current ≡ [] }
+        ensures solid { AreSolid result (line_left self.old) (line_left self.new) }
+        ensures none { result ≡ 0 → line_left self.new ≡ line_left self.old }
+        ensures within { result ≤ most }
+    {
+        self.current.pass_solid(most)
     }
 
     /// Passes over n graphemes.

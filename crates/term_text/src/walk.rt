@@ -41,7 +41,7 @@ struct Walk<'t, 'a> {
 impl<'t, 'a> Walk<'t, 'a> {
     ghost use Rattle.term_text.specs.Walk.{cut_left};
 
-    /// Passes over a grapheme, or over all the printable bytes in front, or answers.
+    /// Passes over a grapheme, or over all the printable bytes or plain characters in front, or answers.
     fn step(&mut self) -> Option<(usize, bool)>
         ensures { MatchOption result
             ((cut_left self.new ≡ cut_left self.old) × (length (line_left self.new.ahead) < length (line_left self.old.ahead)))
@@ -49,6 +49,12 @@ impl<'t, 'a> Walk<'t, 'a> {
     {
         if self.ahead.stretch().len() > 0 {
             return self.pass_stretch();
+        }
+        let solid = self.ahead.pass_solid(self.room);
+        if solid > 0 {
+            self.room -= solid;
+            self.count += solid;
+            return None;
         }
         let Some(graph) = self.ahead.next() else {
             return Some((self.count, true));

@@ -84,6 +84,9 @@ impl<'t, 'a> LineGraphemes<'t, 'a> {
             self.pass_stretch(stretch);
             return 1;
         }
+        if self.pass_solid(usize::MAX) > 0 {
+            return 1;
+        }
         match self.next() {
             Some(graph) => graph.width,
             None => 0,
