@@ -1,8 +1,7 @@
 // The forms of the dialect that are built.
 ghost use Rattle.std.specs.Prelude.{◌≡◌};
-ghost use Rattle.std.specs.List.{list_any};
 ghost use Rattle.md_lines.specs.Lines.{lines_of};
-ghost use Rattle.md_events.specs.Built.{begins_metadata, built, has_pair, has_unbuilt_pair, is_unbuilt};
+ghost use Rattle.md_events.specs.Built.{begins_metadata, begins_unbuilt, built, has_unbuilt};
 
 use md_lines::line_of;
 use md_rules::is_dashes;
@@ -15,44 +14,38 @@ use term_text::next_line;
 pub fn built(text: &str) -> bool
     ensures { result ≡ built text.now }
 {
-    let bytes = text.as_bytes();
-    !has_unbuilt_byte(bytes) && !has_unbuilt_pair(bytes) && !begins_metadata(text)
+    !has_unbuilt(text.as_bytes()) && !begins_metadata(text)
 }
 
-fn has_unbuilt_byte(bytes: &[u8]) -> bool
-    ensures { result ≡ list_any is_unbuilt bytes.now }
+/// Whether a form that is not built begins somewhere, metadata aside.
+fn has_unbuilt(bytes: &[u8]) -> bool
+    ensures { result ≡ has_unbuilt bytes.now }
 {
-    bytes.iter().any(|b| is_unbuilt(*b))
-}
-
-/// Whether a byte begins a form that is not built.
-fn is_unbuilt(b: u8) -> bool
-    ensures { result ≡ is_unbuilt b }
-{
-    matches!(b, b'$' | b'<')
-}
-
-fn has_unbuilt_pair(bytes: &[u8]) -> bool
-    ensures { result ≡ has_unbuilt_pair bytes.now }
-{
-    has_pair(b'!', b'[', bytes)
-        || has_pair(b'[', b'^', bytes)
-        || has_pair(b':', b' ', bytes)
-        || has_pair(b':', b'\t', bytes)
-}
-
-/// Whether these two bytes stand somewhere, one behind the other.
-fn has_pair(first: u8, second: u8, bytes: &[u8]) -> bool
-    ensures { result ≡ has_pair first second bytes.now }
-{
-    let mut at = 0;
-    while at < bytes.len() {
-        if bytes[at] == first && at + 1 < bytes.len() && bytes[at + 1] == second {
+    let mut rest = bytes;
+    while let Some((b, behind)) = rest.split_first() {
+        if begins_unbuilt(*b, behind) {
             return true;
         }
-        at += 1;
+        rest = behind;
     }
     false
+}
+
+/// Whether a byte begins a form that is not built, with these bytes behind it.
+fn begins_unbuilt(b: u8, behind: &[u8]) -> bool
+    ensures { result ≡ begins_unbuilt b behind.now }
+{
+    // the letters of most texts stand above all of these bytes
+    if b > b'[' {
+        return false;
+    }
+    match b {
+        b'$' | b'<' => true,
+        b'!' => matches!(behind.first(), Some(b'[')),
+        b'[' => matches!(behind.first(), Some(b'^')),
+        b':' => matches!(behind.first(), Some(b' ' | b'\t')),
+        _ => false,
+    }
 }
 
 /// Whether the text begins as metadata does.
