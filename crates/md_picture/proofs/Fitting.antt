@@ -1,15 +1,15 @@
 -- The columns of a table fit its cells.
 use Rattle.std.proofs.Common.{◌≡◌, ◌≤◌, ℕ, zero, suc, Option, None, Some, List, [], ◌∷◌, length, map, fold, replicate, refl, subst, arith}
 use Rattle.std.proofs.lemmas.List.Sums.{sum_by-cons}
-use Rattle.term_text.specs.Graph.{Grapheme, columns, graphs, spans_graphs}
+use Rattle.term_text.specs.Graph.{Grapheme, columns, graphs, spans_graphs, widest}
 use Rattle.term_text.specs.Text.{LineView}
 use Rattle.term_text.specs.declared.alignment.Alignment.{Alignment}
-use Rattle.term_text.proofs.WrapLemmas.{Narrow, NoneWider-from}
+use Rattle.term_text.proofs.WidthLemmas.{NoneWider-widest}
 use Rattle.md_columns.specs.declared.bounds.Bounds.{Bounds}
 use Rattle.md_columns.specs.Fair.{Ordered, Within}
 use Rattle.md_columns.proofs.Fairness.{within-fair}
 use Rattle.md_picture.specs.declared.columns.Column.{Column}
-use Rattle.md_picture.specs.Cells.{widest, narrowest, with_row, bounds_of}
+use Rattle.md_picture.specs.Cells.{narrowest, with_row, bounds_of}
 use Rattle.md_picture.specs.Picture.{first_cell, other_cells, budget_of, widths_of, columns_of}
 use Rattle.md_picture.specs.Fits.{RowFits, RowsFit}
 
@@ -95,20 +95,15 @@ table-least width n rows = least-widths width (bounds_of n rows) (ordered-rows r
 
 -- ---- cells
 
-narrow-widest : (w : ℕ) (gs : List Grapheme) → widest gs ≤ w → Narrow w gs
-unfolding widest
-narrow-widest w [] h = tt
-narrow-widest w (g ∷ gs) h = (omega (arith, h), narrow-widest w gs (omega (arith, h)))
-
 row-fits : (bounds : List Bounds) (widths : List ℕ) (alignments : List Alignment) (cells : List LineView) → Covers bounds cells → AtLeast bounds widths → RowFits (columns_of widths alignments) cells
 unfolding columns_of
 row-fits [] [] alignments cells covers least = tt
 row-fits [] (width ∷ widths) alignments cells covers least = absurd least
 row-fits (b ∷ bounds) [] alignments cells covers least = absurd least
 row-fits (b ∷ bounds) (width ∷ widths) [] cells covers least =
-    (NoneWider-from width _ (narrow-widest width _ (omega (arith, covers.0, least.0))), row-fits bounds widths [] (other_cells cells) covers.1 least.1)
+    ((NoneWider-widest width _).0 (omega (arith, covers.0, least.0)), row-fits bounds widths [] (other_cells cells) covers.1 least.1)
 row-fits (b ∷ bounds) (width ∷ widths) (alignment ∷ alignments) cells covers least =
-    (NoneWider-from width _ (narrow-widest width _ (omega (arith, covers.0, least.0))), row-fits bounds widths alignments (other_cells cells) covers.1 least.1)
+    ((NoneWider-widest width _).0 (omega (arith, covers.0, least.0)), row-fits bounds widths alignments (other_cells cells) covers.1 least.1)
 
 rows-fit : (fitted : List Column) (whole : List Bounds) (rows : List (List LineView)) (bounds : List Bounds) → with_rows bounds rows ≡ whole → ((cells : List LineView) → Covers whole cells → RowFits fitted cells) → RowsFit fitted rows
 rows-fit fitted whole [] bounds e f = tt

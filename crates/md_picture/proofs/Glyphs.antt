@@ -6,7 +6,7 @@ use Rattle.term_text.specs.Style.{patch}
 use Rattle.term_text.specs.Text.{SpanView}
 use Rattle.term_text.specs.Wrap.{Thinned, none, keep, skip}
 use Rattle.term_text.specs.declared.style.Style.{Style}
-use Rattle.term_text.proofs.RowLemmas.{columns-cons}
+use Rattle.term_text.proofs.CutLemmas.{columns-cons}
 use Rattle.md_picture.specs.Cells.{glyph}
 use Rattle.md_picture.specs.Picture.{span_width, spans_width}
 use Rattle.md_picture.proofs.Spans.{spans_width-cons}

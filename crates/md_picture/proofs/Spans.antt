@@ -18,7 +18,7 @@ use Rattle.term_text.specs.declared.alignment.Alignment.{Alignment}
 use Rattle.term_text.specs.declared.alignment.Alignment.TheVariants as align
 use Rattle.term_text.specs.declared.style.Style.{Style}
 use Rattle.term_text.proofs.PlainLemmas.{visible-plain, visible-printable, columns-plain, columns-printable}
-use Rattle.term_text.proofs.RowLemmas.{columns-cons}
+use Rattle.term_text.proofs.CutLemmas.{columns-cons}
 use Rattle.md_picture.specs.declared.columns.Column.{Column}
 use Rattle.md_picture.specs.declared.border.Edge.{Edge}
 use Rattle.md_picture.specs.declared.border.Edge.TheVariants.{Top, Middle, Bottom}

@@ -1,6 +1,6 @@
 -- Cells of a table, and the bounds of its columns.
 use Rattle.std.specs.Prelude.{ℕ, nat_le, true, if◌then◌else◌, List, [], ◌∷◌, fold, map, max, replicate}
-use Rattle.term_text.specs.Graph.{Grapheme, columns, graphs}
+use Rattle.term_text.specs.Graph.{Grapheme, columns, graphs, widest}
 use Rattle.term_text.specs.Style.{no_style, patch}
 use Rattle.term_text.specs.Text.{SpanView, LineView}
 use Rattle.term_text.specs.Wrap.{wrap}
@@ -14,11 +14,6 @@ empty_cell = record { spans = []; style = no_style }
 -- the columns that the cell's visible graphemes take
 abbrev pub cell_width : LineView → ℕ
 cell_width cell = columns (graphs cell)
-
--- the columns of the widest of them
-unfoldable pub widest : List Grapheme → ℕ
-widest [] = 0
-widest (g ∷ gs) = max g.width (widest gs)
 
 -- a column has one column of cells at least
 abbrev pub narrowest : Bounds

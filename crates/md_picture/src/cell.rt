@@ -4,7 +4,7 @@ ghost use Rattle.term_text.specs.Graph.{graphs};
 ghost use Rattle.term_text.specs.Iter.{grapheme};
 ghost use Rattle.term_text.specs.Rows.{row_graphs};
 ghost use Rattle.term_text.specs.Wrap.{NoneWider, wrap};
-ghost use Rattle.md_picture.specs.Cells.{cell_rows, cell_width, glyph, widest, with_cell};
+ghost use Rattle.md_picture.specs.Cells.{cell_rows, cell_width, glyph, with_cell};
 
 use md_columns::Bounds;
 use std::alloc::{AllocError, Global};
@@ -51,26 +51,17 @@ pub(crate) fn cell_width(cell: &Line) -> Result<usize, AllocError>
     }
 }
 
-/// The columns of the widest grapheme of the cell.
-#[tactic(auto, unfolding(crate::specs::Cells::widest))]
-fn widest(cell: &Line) -> usize
-    ensures { result ≡ widest (graphs cell.now) }
-{
-    let mut graphs = cell.graphemes();
-    let mut most = 0usize;
-    'graphs: while let Some(graph) = graphs.next() {
-        most = most.max(graph.width);
-    }
-    most
-}
-
 /// The bounds of a column that has this cell too.
 pub(crate) fn bounded(bounds: Bounds, cell: &Line) -> Result<Bounds, AllocError>
     ensures { IfOk result (λ wider. wider ≡ with_cell bounds cell.now) }
 {
+    let extent = cell.extent();
+    if extent.columns == usize::MAX {
+        return Err(AllocError);
+    }
     Ok(Bounds {
-        least: bounds.least.max(widest(cell)),
-        most: bounds.most.max(cell_width(cell)?),
+        least: bounds.least.max(extent.widest),
+        most: bounds.most.max(extent.columns),
     })
 }
 

@@ -33,7 +33,7 @@ pub(crate) fn row_lines<'a>(
     ensures { IfOk result (λ lines. lines.items ≡ row_lines border style columns.now cells.now) }
 {
     let parts = row_parts(alloc, columns, cells)?;
-    let lines = begun(alloc, border, height_of(parts.as_slice()))?;
+    let lines = begun(alloc, border, columns.len(), height_of(parts.as_slice()))?;
     with_cells(alloc, border, style, columns, parts, lines)
 }
 
@@ -82,13 +82,20 @@ fn height_of(parts: &[CellRows]) -> usize
     height
 }
 
-/// So many lines that begin with a border.
-fn begun<'a>(alloc: Global, border: Style, height: usize) -> Result<Vec<Line<'a>>, AllocError>
+/// So many lines that begin with a border, and have room for cells in so many columns.
+fn begun<'a>(
+    alloc: Global,
+    border: Style,
+    columns: usize,
+    height: usize,
+) -> Result<Vec<Line<'a>>, AllocError>
     ensures { IfOk result (λ lines. lines.items ≡ replicate height (record { spans = bar border ∷ []; style = no_style })) }
 {
+    // A cell is mostly a span between two pads, with a border behind it.
+    let spans = columns.saturating_mul(4).saturating_add(1);
     let mut lines = Vec::with_capacity(alloc, height)?;
     for i in 0..height {
-        let mut line = Line::new(alloc);
+        let mut line = Line::with_capacity(alloc, spans)?;
         push_bar(&mut line, border)?;
         lines.push(line)?;
     }

@@ -170,23 +170,50 @@ fn tables_of_texts_are_drawn(rt: HostRuntime) -> Result<(), Fail> {
     let rows = [
         (
             "|a|b|\n|:-:|--:|\n|x|yy|",
+            false,
             "┌───┬────┐\n│ a │  b │\n├───┼────┤\n│ x │ yy │\n└───┴────┘\n",
         ),
         (
+            "| H |\n| --- |\n| a |\n| b |",
+            true,
+            "┌───┐\n│ H │\n├───┤\n│ a │\n├───┤\n│ b │\n└───┘\n",
+        ),
+        (
+            "- [x] | H |\n  | --- |",
+            false,
+            "- [x] ┌───┐\n      │ H │\n      ├───┤\n      └───┘\n",
+        ),
+        (
             "- [x] a\n\n  | H |\n  | --- |",
+            false,
             "- [x] a\n\n      ┌───┐\n      │ H │\n      ├───┤\n      └───┘\n",
         ),
         (
             "> - | aa bb |\n>   | --- |",
+            false,
             "> - ┌──────┐\n>   │ aa   │\n>   │ bb   │\n>   ├──────┤\n>   └──────┘\n",
         ),
     ];
-    let options = Options::default().table_width(12);
-    for (input, want) in rows {
+    for (input, dividers, want) in rows {
         assert!(rt; built(input), "{input:?}");
+        let options = Options::default()
+            .table_width(12)
+            .table_row_dividers(dividers);
         let text = from_str_with_options(rt.alloc(), input, &options, &NoHighlight)?;
         let shown = shown(rt.alloc(), &text)?;
         assert_eq!(rt; shown.as_str(), want, "{input:?}");
     }
+    Ok(())
+}
+
+#[test]
+fn a_table_of_a_text_has_the_styles_of_the_sheet(rt: HostRuntime) -> Result<(), Fail> {
+    let input = "| Name | 漢 |\n|:---|-:|\n| API | b |";
+    let text = from_str_with_options(rt.alloc(), input, &Options::default(), &NoHighlight)?;
+    let drawn = drawn(rt.alloc(), &text)?;
+    assert_eq!(rt;
+        drawn.as_str(),
+        "|┌──────┬────┐<border>|\n|│<border>| <h2>|Name<h2>| <h2>|│<border>| <h2>|漢<h2>| <h2>|│<border>|\n|├──────┼────┤<border>|\n|│<border>| |API|  |│<border>|  |b| |│<border>|\n|└──────┴────┘<border>|\n"
+    );
     Ok(())
 }

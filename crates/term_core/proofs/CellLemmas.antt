@@ -3,7 +3,7 @@ use Rattle.std.proofs.Common.{◌≡◌, ℕ, ◌-◌, ◌≤◌, List, [], ◌�
 use Rattle.std.proofs.lemmas.List.{length-replicate}
 use Rattle.term_text.specs.Graph.{Grapheme, columns}
 use Rattle.term_text.proofs.CutLemmas.{AllShown}
-use Rattle.term_text.proofs.RowLemmas.{columns-cons}
+use Rattle.term_text.proofs.CutLemmas.{columns-cons}
 use Rattle.term_core.specs.Cells.{row_cells, cells, blank_cell}
 
 -- a row has as many cells as columns

@@ -1,5 +1,5 @@
 -- Each grapheme of a row takes a column at least.
-use Rattle.std.proofs.Common.{◌≡◌, ℕ, zero, suc, ◌≤◌, Bool, true, false, cond, nat_le, List, [], ◌∷◌, ◌++◌, length, take, drop, refl, arith}
+use Rattle.std.proofs.Common.{ℕ, zero, suc, Bool, true, false, cond, nat_le, List, [], ◌∷◌, length, take, drop}
 use Rattle.std.specs.List.{AllByRecursion}
 use Rattle.term_text.specs.Graph.{Grapheme, columns, graphs}
 use Rattle.term_text.specs.Text.{LineView}

@@ -112,7 +112,7 @@ fitting-more : (room : ℕ) (g : Grapheme) (gs : List Grapheme) → nat_lt room 
 unfolding fitting
 fitting-more room g gs h = grind (arith, nat_tests)
 
-columns-cons : (g : Grapheme) (gs : List Grapheme) → columns (g ∷ gs) ≡ g.width + columns gs
+pub columns-cons : (g : Grapheme) (gs : List Grapheme) → columns (g ∷ gs) ≡ g.width + columns gs
 columns-cons g gs = sum_by-cons (λ (x : Grapheme). x.width) g gs
 
 over : (room w rest : ℕ) → nat_lt room w ≡ true → nat_le (w + rest) room ≡ false

@@ -1,7 +1,7 @@
 -- How the visible graphemes follow from the pieces.
-use Rattle.std.proofs.Common.{◌≡◌, ℕ, zero, suc, ◌≤◌, true, false, List, [], ◌∷◌, ◌++◌, map, drop, length, get_or, ◌+◌, ◌<◌, refl, sym, ap, ◌∙◌, arith, append-nil, ap₂, take, slice_range, ◌-◌}
-use Rattle.std.proofs.lemmas.List.{length-map, drop_more}
-use Rattle.std.proofs.lemmas.Str.{IsCharBoundary-from_ascii}
+use Rattle.std.proofs.Common.{◌≡◌, None, ℕ, zero, suc, ◌≤◌, true, false, List, [], ◌∷◌, ◌++◌, map, drop, length, get_or, ◌+◌, ◌<◌, refl, sym, ap, ◌∙◌, arith, append-nil, ap₂, take, slice_range, ◌-◌}
+use Rattle.std.proofs.lemmas.List.{length-map, drop_more, drop_all}
+use Rattle.std.proofs.lemmas.Str.{IsCharBoundary-from_ascii, chars-nil}
 use Rattle.std.specs.List.{list_all}
 use Rattle.std.specs.Str.{IsCharBoundary}
 use Rattle.unicode_segmentation.specs.Grapheme.{graphemes}
@@ -11,7 +11,7 @@ use Rattle.unicode_segmentation.specs.Segments.{Rule, segments, cut}
 use Rattle.term_text.specs.declared.style.Style.{Style}
 use Rattle.term_text.specs.declared.graphs.Graphemes.{Graphemes}
 use Rattle.term_text.specs.Graph.{Grapheme, grapheme_of, is_visible, visible}
-use Rattle.term_text.specs.Iter.{pieces_left, plain_left, stretch_left, graphs_left}
+use Rattle.term_text.specs.Iter.{glyph_pieces, cluster_pieces, pieces_left, plain_left, stretch_left, graphs_left}
 use Rattle.term_text.specs.Plain.{IsPlain, byte_grapheme, is_printable, plain_grapheme}
 
 pub segments-nil : (rule : Rule) → segments rule [] ≡ []
@@ -51,6 +51,15 @@ graphs_left-shown s t p none none' e same h =
 pub graphs_left-end : (s : Graphemes) → AtPieces s → pieces_left s ≡ [] → graphs_left s ≡ []
 unfolding visible
 graphs_left-end s none e = graphs_left-pieces s none ∙ ap (visible s.style) e
+
+-- nothing is left where nothing of a text is
+pub graphs_left-passed : (s : Graphemes) → length s.stretch.now ≤ s.passed → s.plain.now ≡ [] → s.glyph ≡ None → s.pieces ≡ None → graphs_left s ≡ []
+unfolding stretch_left plain_left pieces_left
+graphs_left-passed s all plain glyph pieces =
+    graphs_left-end s record {
+      stretch = drop_all s.passed s.stretch.now all;
+      plain = ap (λ (text : List ℕ). map (plain_grapheme s.style) (chars text)) plain ∙ ap (map (plain_grapheme s.style)) chars-nil;
+    } (ap₂ (λ g ps. glyph_pieces g ++ cluster_pieces ps) glyph pieces)
 
 pub drop-front : {A : Type 0} (n : ℕ) (xs ys : List A) → n ≤ length xs → drop n (xs ++ ys) ≡ drop n xs ++ ys
 drop-front zero xs ys h = refl

@@ -1,17 +1,13 @@
 -- The rows of a wrap are narrow, and joined they are the graphemes without some blanks.
-use Rattle.std.proofs.Common.{◌≡◌, ℕ, zero, suc, ◌+◌, ◌-◌, ◌≤◌, Bool, true, false, cond, nat_le, List, [], ◌∷◌, ◌++◌, length, take, drop, refl, sym, subst, arith, append-nil, le_refl}
+use Rattle.std.proofs.Common.{◌≡◌, ℕ, zero, suc, ◌-◌, ◌≤◌, Bool, true, false, cond, nat_le, List, [], ◌∷◌, ◌++◌, length, take, drop, refl, sym, subst, arith, append-nil, le_refl}
 use Rattle.std.proofs.lemmas.List.{take-append-drop}
-use Rattle.std.proofs.lemmas.List.Sums.{sum_by-cons}
 use Rattle.std.proofs.lemmas.List.Elements.{All-from_recursion}
 use Rattle.std.specs.List.{AllByRecursion}
 use Rattle.term_text.specs.Lists.{joined}
 use Rattle.term_text.specs.Graph.{Grapheme, columns}
 use Rattle.term_text.specs.Wrap.{fitting, last_blank, cut_of, skip_blanks, rest_of, unless_empty, wrap_within, wrap, NoneWider, Thinned, none, keep, skip, AllNarrow}
 use Rattle.term_text.proofs.WrapLemmas.{Narrow, Narrow-from, Narrow-rest, length-rest, wrap_within-nil}
-use Rattle.term_text.proofs.CutLemmas.{le_of_test}
-
-pub columns-cons : (g : Grapheme) (gs : List Grapheme) → columns (g ∷ gs) ≡ g.width + columns gs
-columns-cons g gs = sum_by-cons (λ (x : Grapheme). x.width) g gs
+use Rattle.term_text.proofs.CutLemmas.{columns-cons, le_of_test}
 
 last_blank-le : (gs : List Grapheme) (i d k : ℕ) → i ≤ k → d ≤ k → last_blank gs i d ≤ k
 unfolding last_blank

@@ -1,5 +1,5 @@
 -- A walk that takes plain characters at once.
-use Rattle.std.proofs.Common.{◌≡◌, ◌↔◌, ℕ, zero, suc, ◌+◌, ◌-◌, ◌≤◌, ◌<◌, ◌==◌, Bool, true, false, List, [], ◌∷◌, ◌++◌, map, length, refl, sym, ap, ap₂, ◌∙◌, subst, arith}
+use Rattle.std.proofs.Common.{◌≡◌, ℕ, zero, suc, ◌+◌, ◌-◌, ◌≤◌, ◌==◌, Bool, true, false, List, [], ◌∷◌, ◌++◌, map, length, refl, sym, ap, ap₂, ◌∙◌, subst, arith}
 use Rattle.std.proofs.lemmas.Bool.{and_parts}
 use Rattle.std.proofs.lemmas.Bool.Decides.{nat_tests}
 use Rattle.std.specs.List.{list_all}
@@ -10,9 +10,7 @@ use Rattle.std.specs.Str.{chars}
 use Rattle.std.proofs.lemmas.Str.{chars-nil}
 use Rattle.term_text.specs.Plain.{byte_grapheme, plain_grapheme}
 use Rattle.term_text.specs.Solid.{AreSolid, is_solid}
-use Rattle.term_text.specs.Wrap.{NoneWider}
 use Rattle.term_text.proofs.CutLemmas.{cut_from-go}
-use Rattle.term_text.proofs.WidthLemmas.{NoneWider-cons}
 
 pub solid-front : (style : Style) (cs : List ℕ) (rest : List Grapheme) → list_all is_solid cs ≡ true → AreSolid (length cs) (map (plain_grapheme style) cs ++ rest) rest
 unfolding AreSolid
@@ -74,25 +72,3 @@ cut_from-solid (suc n) (g ∷ gs) rest room count mark le h =
   where
     unmarked : (count mark : ℕ) → mark_of false count mark ≡ mark
     unmarked count mark = grind (arith, nat_tests)
-
-NoneWider-solid : (n w : ℕ) (gs rest : List Grapheme) → AreSolid (suc n) gs rest → NoneWider w gs ↔ ((1 ≤ w) × NoneWider w rest)
-unfolding AreSolid
-NoneWider-solid n w [] rest h = absurd h
-NoneWider-solid zero w (g ∷ gs) rest h =
-    let first = NoneWider-cons w (g ∷ gs) gs g refl in
-    let one : g.width ≡ 1 = h.0 in (
-      λ k. let both = first.0 k in (omega (arith, both.0), subst (NoneWider w) h.2 both.1),
-      λ k. first.1 (omega (arith, k.0), subst (NoneWider w) (sym h.2) k.1),
-    )
-NoneWider-solid (suc n) w (g ∷ gs) rest h =
-    let first = NoneWider-cons w (g ∷ gs) gs g refl in
-    let next = NoneWider-solid n w gs rest h.2 in
-    let one : g.width ≡ 1 = h.0 in (
-      λ k. let both = first.0 k in next.0 both.1,
-      λ k. first.1 (omega (arith, k.0), next.1 k),
-    )
-
--- they are one column wide
-pub NoneWider-some : (n w : ℕ) (gs rest : List Grapheme) → 0 < n → AreSolid n gs rest → NoneWider w gs ↔ ((1 ≤ w) × NoneWider w rest)
-NoneWider-some zero w gs rest some h = absurd (omega arith)
-NoneWider-some (suc n) w gs rest some h = NoneWider-solid n w gs rest h

@@ -1,5 +1,5 @@
 -- The visible graphemes of spans and lines.
-use Rattle.std.specs.Prelude.{ℕ, Bool, true, false, not, ◌&&◌, nat_le, List, [], ◌∷◌, ◌++◌, sum_by, chars, if◌then◌else◌}
+use Rattle.std.specs.Prelude.{ℕ, Bool, true, false, not, ◌&&◌, nat_le, max, List, [], ◌∷◌, ◌++◌, sum_by, chars, if◌then◌else◌}
 use Rattle.std.specs.Char.{is_whitespace, is_control}
 use Rattle.std.specs.List.{list_any, list_all}
 use Rattle.unicode_segmentation.specs.Grapheme.{graphemes}
@@ -54,3 +54,8 @@ graphs line = spans_graphs line.style line.spans
 -- the columns of graphemes
 abbrev pub columns : List Grapheme → ℕ
 columns gs = sum_by (λ g. g.width) gs
+
+-- the columns of the widest of graphemes
+unfoldable pub widest : List Grapheme → ℕ
+widest [] = 0
+widest (g ∷ gs) = max g.width (widest gs)

@@ -2,6 +2,7 @@
 use Rattle.std.specs.Prelude.{ℕ, List, [], ◌∷◌, ◌++◌, Option, Some, None, chars, map, drop}
 use Rattle.std.specs.Borrow.{Bor}
 use Rattle.unicode_segmentation.specs.Iter.{graphemes_left}
+use Rattle.unicode_segmentation.specs.declared.grapheme.Graphemes.{Graphemes as Clusters}
 use Rattle.term_text.specs.declared.grapheme.Graph.{Graph}
 use Rattle.term_text.specs.declared.graphs.Graphemes.{Graphemes}
 use Rattle.term_text.specs.Graph.{Grapheme, visible}
@@ -15,9 +16,13 @@ abbrev pub glyph_pieces : Option (Bor (List ℕ)) → List (List ℕ)
 glyph_pieces None = []
 glyph_pieces (Some text) = text.now ∷ []
 
+abbrev pub cluster_pieces : Option Clusters → List (List ℕ)
+cluster_pieces None = []
+cluster_pieces (Some clusters) = graphemes_left clusters
+
 -- the pieces that are still to come
 unfoldable pub pieces_left : Graphemes → List (List ℕ)
-pieces_left s = glyph_pieces s.glyph ++ graphemes_left s.pieces
+pieces_left s = glyph_pieces s.glyph ++ cluster_pieces s.pieces
 
 -- the printable bytes in front that are still to come
 unfoldable pub stretch_left : Graphemes → List ℕ

@@ -8,7 +8,7 @@ ghost use Rattle.term_text.specs.Plain.{IsPlain, is_printable};
 ghost use Rattle.term_text.specs.Solid.{AreSolid};
 
 use crate::grapheme::Graph;
-use crate::pieces::graph_of;
+use crate::pieces::{copied, graph_of};
 use crate::plain::{first_char, solid_count};
 use crate::style::Style;
 use crate::text::Span;
@@ -24,7 +24,8 @@ pub struct Graphemes<'a> {
     // Characters that are each a grapheme of one column, which come next.
     plain: &'a str,
     glyph: Option<&'a str>,
-    pieces: unicode_segmentation::Graphemes<'a>,
+    // The clusters of any other text.
+    pieces: Option<unicode_segmentation::Graphemes<'a>>,
     style: Style,
     ghost printable: { list_all is_printable stretch.now ≡ true },
     ghost within: { passed ≤ length stretch.now },
@@ -54,7 +55,14 @@ impl<'a> Graphemes<'a> {
     pub(crate) fn none(style: Style) -> Graphemes<'a>
         ensures { graphs_left result ≡ [] }
     {
-        Graphemes::of_text("", style)
+        Graphemes {
+            stretch: "",
+            passed: 0,
+            plain: "",
+            glyph: None,
+            pieces: None,
+            style,
+        }
     }
 
     fn of_glyph(text: &'a str, style: Style) -> Graphemes<'a>
@@ -65,7 +73,7 @@ impl<'a> Graphemes<'a> {
             passed: 0,
             plain: "",
             glyph: Some(text),
-            pieces: "".graphemes(true),
+            pieces: None,
             style,
         }
     }
@@ -79,7 +87,7 @@ impl<'a> Graphemes<'a> {
             passed: 0,
             plain: "",
             glyph: None,
-            pieces: "".graphemes(true),
+            pieces: None,
             style,
         }
     }
@@ -93,7 +101,7 @@ impl<'a> Graphemes<'a> {
             passed: 0,
             plain: text,
             glyph: None,
-            pieces: "".graphemes(true),
+            pieces: None,
             style,
         }
     }
@@ -106,7 +114,7 @@ impl<'a> Graphemes<'a> {
             passed: 0,
             plain: "",
             glyph: None,
-            pieces: text.graphemes(true),
+            pieces: Some(text.graphemes(true)),
             style,
         }
     }
@@ -115,17 +123,24 @@ impl<'a> Graphemes<'a> {
     pub(crate) fn copy(&self) -> Graphemes<'a>
         ensures { graphs_left result ≡ graphs_left self.now }
     {
-        let Ok(pieces) = self.pieces.clone() else {
-            unreachable!();
-        };
         Graphemes {
             stretch: self.stretch,
             passed: self.passed,
             plain: self.plain,
             glyph: self.glyph,
-            pieces,
+            pieces: copied(&self.pieces),
             style: self.style,
         }
+    }
+
+    /// Whether it is known that no grapheme is left.
+    pub(crate) fn is_passed(&self) -> bool
+        ensures { result ≡ true → graphs_left self.now ≡ [] }
+    {
+        if self.passed < self.stretch.len() || !self.plain.is_empty() {
+            return false;
+        }
+        self.glyph.is_none() && self.pieces.is_none()
     }
 
     /// The printable bytes in front, each a grapheme.
@@ -220,7 +235,10 @@ impl<'a> Graphemes<'a> {
         if let Some(text) = self.glyph.take() {
             return Some(text);
         }
-        self.pieces.next()
+        match &mut self.pieces {
+            Some(pieces) => pieces.next(),
+            None => None,
+        }
     }
 }
 

@@ -32,3 +32,4 @@ pub use stack::Stack;
 pub use steps::{Counted, Ledger, NoSteps, Steps};
 pub use style::{Color, Modifier, Style};
 pub use text::{Line, Span, Text};
+pub use widths::Extent;

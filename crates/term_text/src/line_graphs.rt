@@ -1,5 +1,5 @@
 // The visible graphemes of a line.
-ghost use Rattle.std.specs.Prelude.{⊤, [], ◌≡◌, ◌==◌, ◌≤◌, ◌<◌, true, false, length, drop};
+ghost use Rattle.std.specs.Prelude.{⊤, [], ◌≡◌, ◌==◌, ◌≤◌, ◌<◌, ◌+◌, true, false, length, drop};
 ghost use Rattle.std.specs.Iterator.{YieldsFirstBy, item_count};
 ghost use Rattle.term_text.specs.Graph.{graphs, spans_graphs};
 ghost use Rattle.term_text.specs.Iter.{grapheme, stretch_left, graphs_left};
@@ -28,11 +28,36 @@ impl<'t, 'a> LineGraphemes<'t, 'a> {
         ensures { line_left result ≡ graphs line.now }
     {
         let under = line.style();
-        LineGraphemes {
+        let mut graphemes = LineGraphemes {
             spans: line.spans(),
             place: 0,
             under,
             current: Graphemes::none(under),
+        };
+        graphemes.refill();
+        graphemes
+    }
+
+    /// Goes on to the next span.
+    fn enter(&mut self)
+        requires some { self.old.place < length self.old.spans.now }
+        requires passed { graphs_left self.old.current ≡ [] }
+        ensures left { line_left self.new ≡ line_left self.old }
+        ensures place { self.new.place ≡ self.old.place + 1 }
+        ensures spans { self.new.spans ≡ self.old.spans }
+    {
+        let spans = self.spans;
+        let span = &spans[self.place];
+        self.current = Graphemes::new(span, self.under.patch(span.style()));
+        self.place += 1;
+    }
+
+    /// Goes on to the next span that is not known to be passed, if there is one.
+    fn refill(&mut self)
+        ensures { line_left self.new ≡ line_left self.old }
+    {
+        while self.current.is_passed() && self.place < self.spans.len() {
+            self.enter();
         }
     }
 
@@ -61,6 +86,7 @@ impl<'t, 'a> LineGraphemes<'t, 'a> {
         ensures { line_left self.new ≡ drop n (line_left self.old) }
     {
         self.current.pass_stretch(n);
+        self.refill();
     }
 
     /// Passes over the plain characters in front, if they are at most so many and none is a space, and tells how many.
@@ -70,7 +96,9 @@ impl<'t, 'a> LineGraphemes<'t, 'a> {
         ensures none { result ≡ 0 → line_left self.new ≡ line_left self.old }
         ensures within { result ≤ most }
     {
-        self.current.pass_solid(most)
+        let count = self.current.pass_solid(most);
+        self.refill();
+        count
     }
 
     /// Passes over n graphemes.
@@ -169,13 +197,10 @@ impl<'t, 'a> Iterator for LineGraphemes<'t, 'a> {
             if let Some(graph) = self.current.next() {
                 return Some(graph);
             }
-            let spans = self.spans;
-            if self.place >= spans.len() {
+            if self.place >= self.spans.len() {
                 return None;
             }
-            let span = &spans[self.place];
-            self.current = Graphemes::new(span, self.under.patch(span.style()));
-            self.place += 1;
+            self.enter();
         }
     }
 

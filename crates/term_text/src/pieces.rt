@@ -1,9 +1,9 @@
-// A piece of a text as a grapheme.
+// A piece of a text as a grapheme, and the clusters that give the pieces.
 ghost use Rattle.std.specs.Prelude.{◌≡◌, ◌-◌, true, false, chars, MatchOption};
 ghost use Rattle.std.specs.Char.{is_control};
 ghost use Rattle.std.specs.List.{list_any, list_all};
 ghost use Rattle.term_text.specs.Graph.{grapheme_of, width_of, is_visible, is_blank};
-ghost use Rattle.term_text.specs.Iter.{grapheme};
+ghost use Rattle.term_text.specs.Iter.{grapheme, cluster_pieces};
 
 use crate::grapheme::Graph;
 use crate::style::Style;
@@ -38,4 +38,21 @@ pub(crate) fn graph_of<'a>(piece: &'a str, style: Style) -> Option<Graph<'a>>
         width,
         blank: is_blank(piece),
     })
+}
+
+/// The same clusters again.
+pub(crate) fn copied<'a>(
+    pieces: &Option<unicode_segmentation::Graphemes<'a>>,
+) -> Option<unicode_segmentation::Graphemes<'a>>
+    ensures { cluster_pieces result ≡ cluster_pieces pieces.now }
+{
+    match pieces {
+        Some(clusters) => {
+            let Ok(copy) = clusters.clone() else {
+                unreachable!();
+            };
+            Some(copy)
+        }
+        None => None,
+    }
 }

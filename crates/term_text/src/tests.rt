@@ -1,7 +1,7 @@
 // What the calls answer on examples.
 use crate::{
-    Color, Counted, CowStr, Cutter, Line, Modifier, NoSteps, Span, Stack, Steps, Style, Text,
-    end_length, first_end, next_line, next_line_of_bytes,
+    Color, Counted, CowStr, Cutter, Extent, Line, Modifier, NoSteps, Span, Stack, Steps, Style,
+    Text, end_length, first_end, next_line, next_line_of_bytes,
 };
 use std::alloc::{AllocError, Global};
 use std::test::Fail;
@@ -63,6 +63,13 @@ fn rows_end_before_the_last_blank_that_fits(rt: HostRuntime) -> Result<(), Fail>
 fn wide_characters_need_their_room(rt: HostRuntime) -> Result<(), Fail> {
     let line = line_of(rt.alloc(), "a漢")?;
     assert_eq!(rt; line.width(), 3);
+    assert_eq!(rt;
+        line.extent(),
+        Extent {
+            columns: 3,
+            widest: 2
+        }
+    );
     assert!(rt; line.fits(2));
     assert!(rt; !line.fits(1));
     let plain = line_of(rt.alloc(), "abc")?;
@@ -164,7 +171,8 @@ fn copies_of_spans_borrow_or_own_their_texts(rt: HostRuntime) -> Result<(), Fail
     let owned = copy.try_to_owned(rt.alloc())?;
     assert!(rt; owned.cow().as_borrowed().is_none());
     assert!(rt; owned.is_glyph());
-    let mut line = Line::new(rt.alloc());
+    let mut line = Line::with_capacity(rt.alloc(), 2)?;
+    assert!(rt; line.spans().is_empty());
     line.push_span(owned)?;
     assert_eq!(rt; line.into_spans().len(), 1);
     Ok(())

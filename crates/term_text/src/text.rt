@@ -193,6 +193,16 @@ impl<'a> Line<'a> {
         }
     }
 
+    /// No spans, in no style, with room for so many; or want of memory.
+    pub fn with_capacity(alloc: Global, spans: usize) -> Result<Line<'a>, AllocError>
+        ensures { IfOk result (λ line. line ≡ record { spans = []; style = no_style }) }
+    {
+        Ok(Line {
+            spans: Vec::with_capacity(alloc, spans)?,
+            style: Style::new(),
+        })
+    }
+
     /// A span in no style for each line of the text, by std's `lines`, that is not empty; or want of memory.
     pub fn from_text(alloc: Global, text: &'a str) -> Result<Line<'a>, AllocError>
         ensures { IfOk result (λ line. line ≡ record { spans = raw_spans (lines text.now); style = no_style }) }

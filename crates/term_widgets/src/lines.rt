@@ -24,8 +24,29 @@ fn row_count(line: &Line, width: usize) -> Option<usize>
     Some(count)
 }
 
+/// The number of rows of the line, which has to fit the page. What one walk tells is enough where it is one row.
+fn row_count_of(line: &Line, width: u16) -> Result<usize, WidgetError>
+    ensures ok { IfOk result (λ n. n ≡ length (wrap width (graphs line.now))) }
+    ensures fits { OnOk result (NoneWider width (graphs line.now)) }
+    ensures narrow { IsErrOf result WidgetError.TooNarrow → ¬ (NoneWider width (graphs line.now)) }
+    ensures memory { IsErrOf result WidgetError.Memory → 2 ^ 64 ≤ length (wrap width (graphs line.now)) }
+{
+    let width = usize::from(width);
+    let extent = line.extent();
+    if extent.widest > width {
+        return Err(WidgetError::TooNarrow);
+    }
+    if extent.columns <= width {
+        return Ok(1);
+    }
+    match row_count(line, width) {
+        Some(count) => Ok(count),
+        None => Err(WidgetError::Memory),
+    }
+}
+
 /// The number of rows of the lines, each of which has to fit the page.
-pub(crate) fn count_rows(lines: &[Line], width: usize) -> Result<usize, WidgetError>
+pub(crate) fn count_rows(lines: &[Line], width: u16) -> Result<usize, WidgetError>
     ensures ok { IfOk result (λ n. n ≡ length (rows_of width lines.now)) }
     ensures fits { OnOk result (AllFit width lines.now) }
     ensures narrow { IsErrOf result WidgetError.TooNarrow → IsTrue (any_wider width lines.now) }
@@ -33,13 +54,7 @@ pub(crate) fn count_rows(lines: &[Line], width: usize) -> Result<usize, WidgetEr
 {
     let mut rows = 0usize;
     for line in lines {
-        if !line.fits(width) {
-            return Err(WidgetError::TooNarrow);
-        }
-        let Some(count) = row_count(line, width) else {
-            return Err(WidgetError::Memory);
-        };
-        let Some(sum) = rows.checked_add(count) else {
+        let Some(sum) = rows.checked_add(row_count_of(line, width)?) else {
             return Err(WidgetError::Memory);
         };
         rows = sum;

@@ -45,7 +45,7 @@ impl<'a> Page<'a> {
         ensures fits { OnOk result (AllFit width text.entry) }
         ensures narrow { IsErrOf result WidgetError.TooNarrow → IsTrue (any_wider width text.entry) }
     {
-        let rows = count_rows(text.lines(), width as usize)?;
+        let rows = count_rows(text.lines(), width)?;
         Ok(Page { text, width, rows })
     }
 

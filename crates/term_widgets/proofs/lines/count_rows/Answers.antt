@@ -1,5 +1,5 @@
-use Rattle.std.proofs.Common.{◌≡◌, ◌+◌, ◌^◌, ◌<◌, ◌≤◌, length, take, false, refl, ap, sym, arith, length-append}
-use Rattle.std.specs.Prelude.{IsTrue}
+use Rattle.std.proofs.Common.{◌≡◌, ◌+◌, ◌^◌, ◌<◌, ◌≤◌, length, take, ap, sym, arith, length-append}
+use Rattle.std.proofs.lemmas.Result.{err_from_is_err_and}
 use Rattle.term_core.specs.Graph.{graphs}
 use Rattle.term_core.specs.Wrap.{wrap}
 use Rattle.term_widgets.specs.Page.{rows_of}
@@ -16,24 +16,27 @@ loop-line-preserved c =
     let line = c.line-item.result in
     let k = c.loop-line.line-index in
     let more = rows_of-more w lines k line c.loop-line-test.true c.line-item.is in
-    let count : c.in-Some.count ≡ length (wrap w (graphs line)) = c.in-Some.ensures in (
+    let count : c.in_ok-row_count_of.field-0 ≡ length (wrap w (graphs line)) = c.in_ok-row_count_of.ensures.ok in (
       omega (arith, ap length more, length-append (rows_of w (take k lines)) (wrap w (graphs line))),
-      AllFit-more w lines k line c.loop-line-test.true c.line-item.is c.loop-line.invariant.1 (c.if-not-fits.ensures.0 refl),
+      AllFit-more w lines k line c.loop-line-test.true c.line-item.is c.loop-line.invariant.1 c.in_ok-row_count_of.ensures.fits,
     )
 
-pub returns-then-not-fits-clause-narrow : goal.returns-then-not-fits-clause-narrow
-returns-then-not-fits-clause-narrow c _ =
-    any_wider-at c.args.width c.args.lines.now c.loop-line.line-index c.line-item.result c.loop-line-test.true c.line-item.is
-    (λ all. let h : IsTrue false = c.if-not-fits.ensures.1 all in cc)
+pub returns-in_err-row_count_of-clause-narrow : goal.returns-in_err-row_count_of-clause-narrow
+returns-in_err-row_count_of-clause-narrow c =
+    let p = err_from_is_err_and c.from_residual.result c.from_residual.ensures.1 in
+    rw (p.1, p.2) (λ narrow. any_wider-at c.args.width c.args.lines.now c.loop-line.line-index c.line-item.result c.loop-line-test.true c.line-item.is
+    (c.in_err-row_count_of.ensures.narrow narrow))
+
+pub returns-in_err-row_count_of-clause-memory : goal.returns-in_err-row_count_of-clause-memory
+returns-in_err-row_count_of-clause-memory c =
+    let least = rows_of-least c.args.width c.args.lines.now c.loop-line.line-index c.line-item.result c.loop-line-test.true c.line-item.is in
+    let p = err_from_is_err_and c.from_residual.result c.from_residual.ensures.1 in
+    rw (p.1, p.2) (λ memory.
+    let many : 2 ^ 64 ≤ length (wrap c.args.width (graphs c.line-item.result)) = c.in_err-row_count_of.ensures.memory memory in omega arith)
 
 pub returns-in_default-clause-memory : goal.returns-in_default-clause-memory
 returns-in_default-clause-memory c _ =
     let least = rows_of-least c.args.width c.args.lines.now c.loop-line.line-index c.line-item.result c.loop-line-test.true c.line-item.is in
-    let many : 2 ^ 64 ≤ length (wrap c.args.width (graphs c.line-item.result)) = c.in_default.ensures in omega arith
-
-pub returns-in_default-checked_add-clause-memory : goal.returns-in_default-checked_add-clause-memory
-returns-in_default-checked_add-clause-memory c _ =
-    let least = rows_of-least c.args.width c.args.lines.now c.loop-line.line-index c.line-item.result c.loop-line-test.true c.line-item.is in
-    let count : c.in-Some.count ≡ length (wrap c.args.width (graphs c.line-item.result)) = c.in-Some.ensures in
-    let many : ¬ (c.loop-line.rows + c.in-Some.count < 2 ^ 64) = c.in_default-checked_add.ensures in
+    let count : c.in_ok-row_count_of.field-0 ≡ length (wrap c.args.width (graphs c.line-item.result)) = c.in_ok-row_count_of.ensures.ok in
+    let many : ¬ (c.loop-line.rows + c.in_ok-row_count_of.field-0 < 2 ^ 64) = c.in_default.ensures in
     omega (arith, c.loop-line.invariant.0)

@@ -7,22 +7,34 @@ pub returns-in-Some-clause-piece : goal.returns-in-Some-clause-piece
 unfolding pieces_left stretch_left
 returns-in-Some-clause-piece c = grind (arith, common_steps)
 
-pub returns-clause-piece : goal.returns-clause-piece
+pub returns-in-Some-pieces-clause-piece : goal.returns-in-Some-pieces-clause-piece
 unfolding pieces_left stretch_left
-returns-clause-piece c = grind (arith, common_steps)
+returns-in-Some-pieces-clause-piece c = grind (arith, common_steps)
+
+pub returns-in-None-clause-piece : goal.returns-in-None-clause-piece
+unfolding pieces_left stretch_left
+returns-in-None-clause-piece c = grind (arith, common_steps)
 
 pub returns-in-Some-clause-stretch : goal.returns-in-Some-clause-stretch
 unfolding stretch_left
 returns-in-Some-clause-stretch c = grind (arith, common_steps)
 
-pub returns-clause-stretch : goal.returns-clause-stretch
+pub returns-in-Some-pieces-clause-stretch : goal.returns-in-Some-pieces-clause-stretch
 unfolding stretch_left
-returns-clause-stretch c = grind (arith, common_steps)
+returns-in-Some-pieces-clause-stretch c = grind (arith, common_steps)
+
+pub returns-in-None-clause-stretch : goal.returns-in-None-clause-stretch
+unfolding stretch_left
+returns-in-None-clause-stretch c = grind (arith, common_steps)
 
 pub returns-in-Some-clause-plain : goal.returns-in-Some-clause-plain
 unfolding plain_left
 returns-in-Some-clause-plain c = grind (arith, common_steps)
 
-pub returns-clause-plain : goal.returns-clause-plain
+pub returns-in-Some-pieces-clause-plain : goal.returns-in-Some-pieces-clause-plain
 unfolding plain_left
-returns-clause-plain c = grind (arith, common_steps)
+returns-in-Some-pieces-clause-plain c = grind (arith, common_steps)
+
+pub returns-in-None-clause-plain : goal.returns-in-None-clause-plain
+unfolding plain_left
+returns-in-None-clause-plain c = grind (arith, common_steps)

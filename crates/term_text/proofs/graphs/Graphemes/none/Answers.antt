@@ -1,8 +1,6 @@
-use Rattle.std.proofs.Common.{ap, ◌∙◌}
-use Rattle.term_text.specs.Graph.{visible}
-use Rattle.term_text.proofs.GraphLemmas.{segments-nil}
+use Rattle.std.proofs.Common.{refl, arith}
+use Rattle.term_text.proofs.GraphLemmas.{graphs_left-passed}
 use Rattle.term_text.proofs.graphs.Graphemes.none.Goals as goal
 
 pub returns : goal.returns
-unfolding visible
-returns c = c.of_text.ensures ∙ ap (visible c.args.style) (segments-nil _)
+returns c = graphs_left-passed _ (omega arith) refl refl refl

@@ -1,8 +1,8 @@
-use Rattle.std.proofs.Common.{◌∙◌}
+use Rattle.std.proofs.Common.{refl}
 use Rattle.term_text.specs.Iter.{graphs_left, pieces_left, plain_left, stretch_left}
-use Rattle.term_text.proofs.GraphLemmas.{segments-nil, plain-graphemes}
+use Rattle.term_text.proofs.GraphLemmas.{plain-graphemes}
 use Rattle.term_text.proofs.graphs.Graphemes.of_plain.Goals as goal
 
 pub returns : goal.returns
 unfolding graphs_left pieces_left plain_left stretch_left
-returns c = plain-graphemes c.args.style c.args.text.now _ c.requires (c.graphemes.ensures.left ∙ segments-nil _)
+returns c = plain-graphemes c.args.style c.args.text.now _ c.requires refl
