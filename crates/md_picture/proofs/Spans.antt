@@ -8,16 +8,17 @@ use Rattle.std.proofs.lemmas.Str.{chars-nil, chars-encodes, encodes-append}
 use Rattle.std.specs.List.{list_all}
 use Rattle.std.specs.Prelude.{codes, encode_utf8_all}
 use Rattle.std.specs.Str.{all_scalars, chars}
+use Rattle.ucd_table.specs.Rows.{in_ranges}
 use Rattle.unicode_width.specs.Width.{str_width}
 use Rattle.term_text.specs.Graph.{Grapheme, columns, visible, is_visible, width_of, grapheme_of, pieces_of, span_graphs, spans_graphs}
 use Rattle.term_text.specs.Lists.{joined}
-use Rattle.term_text.specs.Plain.{plain_grapheme, is_plain, IsPlain, IsPrintable}
+use Rattle.term_text.specs.Plain.{plain_grapheme, is_narrow, is_plain, IsPrintable}
 use Rattle.term_text.specs.Style.{patch}
 use Rattle.term_text.specs.Text.{SpanView, LineView}
 use Rattle.term_text.specs.declared.alignment.Alignment.{Alignment}
 use Rattle.term_text.specs.declared.alignment.Alignment.TheVariants as align
 use Rattle.term_text.specs.declared.style.Style.{Style}
-use Rattle.term_text.proofs.PlainLemmas.{visible-plain, visible-printable, columns-plain, columns-printable}
+use Rattle.term_text.proofs.PlainLemmas.{visible-plain, visible-printable, plain_from_narrow, columns-narrow, columns-printable}
 use Rattle.term_text.proofs.CutLemmas.{columns-cons}
 use Rattle.md_picture.specs.declared.columns.Column.{Column}
 use Rattle.md_picture.specs.declared.border.Edge.{Edge}
@@ -50,35 +51,36 @@ columns-spans under (span ∷ spans) =
     ∙ ap₂ (λ m n. m + n) (columns-visible (patch under span.style) span.style (pieces_of span)) (columns-spans under spans)
     ∙ sym (spans_width-cons span spans)
 
--- ---- texts of plain characters
+-- ---- texts of characters of one column
 
--- plain characters, which are scalars too
-abbrev Plain : List ℕ → Type 0
-Plain cs = (list_all is_plain cs ≡ true) × (all_scalars cs ≡ true)
+-- characters of one column, which are scalars too
+abbrev Narrow : List ℕ → Type 0
+Narrow cs = (list_all is_narrow cs ≡ true) × (all_scalars cs ≡ true)
 
-Plain-cons : (c : ℕ) (cs : List ℕ) → Plain (c ∷ []) → Plain cs → Plain (c ∷ cs)
-Plain-cons c cs p q = (grind (arith, nat_tests, p.0, q.0), grind (arith, nat_tests, p.1, q.1))
+Narrow-cons : (c : ℕ) (cs : List ℕ) → Narrow (c ∷ []) → Narrow cs → Narrow (c ∷ cs)
+Narrow-cons c cs p q = (grind (arith, nat_tests, p.0, q.0), grind (arith, nat_tests, p.1, q.1))
 
-Plain-append : (xs ys : List ℕ) → Plain xs → Plain ys → Plain (xs ++ ys)
-Plain-append [] ys p q = q
-Plain-append (x ∷ xs) ys p q =
-    let a = and_parts (is_plain x) (list_all is_plain xs) p.0 in
+Narrow-append : (xs ys : List ℕ) → Narrow xs → Narrow ys → Narrow (xs ++ ys)
+Narrow-append [] ys p q = q
+Narrow-append (x ∷ xs) ys p q =
+    let a = and_parts (is_narrow x) (list_all is_narrow xs) p.0 in
     let b = and_parts (all_scalars (x ∷ [])) (all_scalars xs) (grind (arith, nat_tests, p.1)) in
-    let rest = Plain-append xs ys (a.1, b.1) q in
+    let rest = Narrow-append xs ys (a.1, b.1) q in
     (ap₂ (λ v w. v && w) a.0 rest.0, grind (arith, nat_tests, b.0, rest.1))
 
-Plain-replicate : (n c : ℕ) → Plain (c ∷ []) → Plain (replicate n c)
-Plain-replicate zero c p = (refl, refl)
-Plain-replicate (suc n) c p = Plain-cons c (replicate n c) p (Plain-replicate n c p)
+Narrow-replicate : (n c : ℕ) → Narrow (c ∷ []) → Narrow (replicate n c)
+Narrow-replicate zero c p = (refl, refl)
+Narrow-replicate (suc n) c p = Narrow-cons c (replicate n c) p (Narrow-replicate n c p)
 
-span_width-plain : (style : Style) (cs text : List ℕ) → text ≡ encode_utf8_all cs → Plain cs → span_width (styled text style) ≡ length cs
-span_width-plain style cs text e p =
+span_width-narrow : (style : Style) (cs text : List ℕ) → text ≡ encode_utf8_all cs → Narrow cs → span_width (styled text style) ≡ length cs
+span_width-narrow style cs text e p =
     let spelt : chars text ≡ cs = ap chars e ∙ chars-encodes cs p.1 in
-    let plain : IsPlain text = ap (list_all is_plain) spelt ∙ p.0 in
-    ap columns (visible-plain style text plain) ∙ columns-plain style (chars text) ∙ ap length spelt
+    let narrow : list_all is_narrow (chars text) ≡ true = ap (list_all is_narrow) spelt ∙ p.0 in
+    ap columns (visible-plain style text (plain_from_narrow (chars text) narrow)) ∙ columns-narrow style (chars text) narrow ∙ ap length spelt
 
 pub span_width-bar : (style : Style) → span_width (bar style) ≡ 1
-span_width-bar style = span_width-plain style (0x2502 ∷ []) (encode_utf8_all (codes "│")) refl (refl, refl)
+unfolding in_ranges
+span_width-bar style = span_width-narrow style (0x2502 ∷ []) (encode_utf8_all (codes "│")) refl (refl, refl)
 
 printable-blanks : (n : ℕ) → IsPrintable (replicate n 32)
 printable-blanks zero = refl
@@ -121,31 +123,34 @@ right-is Top = refl
 right-is Middle = refl
 right-is Bottom = refl
 
-plain-left : (edge : Edge) → Plain (left_code edge ∷ [])
-plain-left Top = (refl, refl)
-plain-left Middle = (refl, refl)
-plain-left Bottom = (refl, refl)
+narrow-left : (edge : Edge) → Narrow (left_code edge ∷ [])
+unfolding in_ranges
+narrow-left Top = (refl, refl)
+narrow-left Middle = (refl, refl)
+narrow-left Bottom = (refl, refl)
 
-plain-cross : (edge : Edge) → Plain (cross_code edge ∷ [])
-plain-cross Top = (refl, refl)
-plain-cross Middle = (refl, refl)
-plain-cross Bottom = (refl, refl)
+narrow-cross : (edge : Edge) → Narrow (cross_code edge ∷ [])
+unfolding in_ranges
+narrow-cross Top = (refl, refl)
+narrow-cross Middle = (refl, refl)
+narrow-cross Bottom = (refl, refl)
 
-plain-right : (edge : Edge) → Plain (right_code edge ∷ [])
-plain-right Top = (refl, refl)
-plain-right Middle = (refl, refl)
-plain-right Bottom = (refl, refl)
+narrow-right : (edge : Edge) → Narrow (right_code edge ∷ [])
+unfolding in_ranges
+narrow-right Top = (refl, refl)
+narrow-right Middle = (refl, refl)
+narrow-right Bottom = (refl, refl)
 
 stroke-many : (n : ℕ) → joined (replicate n (encode_utf8_all (codes "─"))) ≡ encode_utf8_all (replicate n 0x2500)
 stroke-many zero = refl
 stroke-many (suc n) = ap (λ r. encode_utf8_all (codes "─") ++ r) (stroke-many n) ∙ sym (encodes-append (0x2500 ∷ []) (replicate n 0x2500))
 
--- characters that are so many plain ones, and spell the text
+-- so many characters of one column that spell the text
 record Spelt (text : List ℕ) (n : ℕ) : Type 0 where
   pub cs : List ℕ
   pub spell : text ≡ encode_utf8_all cs
   pub many : length cs ≡ n
-  pub plain : Plain cs
+  pub narrow : Narrow cs
 
 spelt-append : (xs ys : List ℕ) (m n : ℕ) → Spelt xs m → Spelt ys n → Spelt (xs ++ ys) (m + n)
 spelt-append xs ys m n a b =
@@ -153,26 +158,27 @@ spelt-append xs ys m n a b =
       cs = a.cs ++ b.cs;
       spell = ap₂ (λ s t. s ++ t) a.spell b.spell ∙ sym (encodes-append a.cs b.cs);
       many = omega (arith, length-append a.cs b.cs, a.many, b.many);
-      plain = Plain-append a.cs b.cs a.plain b.plain;
+      narrow = Narrow-append a.cs b.cs a.narrow b.narrow;
     }
 
 spelt-stroke : (column : Column) → Spelt (stroke column) (column.width + 2)
+unfolding in_ranges
 spelt-stroke column =
     record {
       cs = replicate (column.width + 2) 0x2500;
       spell = stroke-many (column.width + 2);
       many = length-replicate (column.width + 2) 0x2500;
-      plain = Plain-replicate (column.width + 2) 0x2500 (refl, refl);
+      narrow = Narrow-replicate (column.width + 2) 0x2500 (refl, refl);
     }
 
 spelt-cross : (edge : Edge) → Spelt (cross_of edge) 1
-spelt-cross edge = record { cs = cross_code edge ∷ []; spell = cross-is edge; many = refl; plain = plain-cross edge }
+spelt-cross edge = record { cs = cross_code edge ∷ []; spell = cross-is edge; many = refl; narrow = narrow-cross edge }
 
 spelt-left : (edge : Edge) → Spelt (left_of edge) 1
-spelt-left edge = record { cs = left_code edge ∷ []; spell = left-is edge; many = refl; plain = plain-left edge }
+spelt-left edge = record { cs = left_code edge ∷ []; spell = left-is edge; many = refl; narrow = narrow-left edge }
 
 spelt-right : (edge : Edge) → Spelt (right_of edge) 1
-spelt-right edge = record { cs = right_code edge ∷ []; spell = right-is edge; many = refl; plain = plain-right edge }
+spelt-right edge = record { cs = right_code edge ∷ []; spell = right-is edge; many = refl; narrow = narrow-right edge }
 
 -- the columns of a table with their blanks, each with one border
 abbrev pub bordered : List Column → ℕ
@@ -181,7 +187,7 @@ bordered (column ∷ columns) = column.width + 3 + bordered columns
 
 spelt-strokes : (edge : Edge) (columns : List Column) → Spelt (strokes edge columns) (bordered columns)
 unfolding strokes
-spelt-strokes edge [] = record { cs = []; spell = refl; many = refl; plain = (refl, refl) }
+spelt-strokes edge [] = record { cs = []; spell = refl; many = refl; narrow = (refl, refl) }
 spelt-strokes edge (column ∷ columns) =
     let whole = spelt-append (cross_of edge) _ 1 (column.width + 2 + bordered columns) (spelt-cross edge)
     (spelt-append (stroke column) (strokes edge columns) (column.width + 2) (bordered columns) (spelt-stroke column) (spelt-strokes edge columns)) in
@@ -205,7 +211,7 @@ width-border_line style edge column columns =
       arith,
       columns-spans line.style line.spans,
       spans_width-cons span [],
-      span_width-plain style text.cs (border_text edge (column ∷ columns)) text.spell text.plain,
+      span_width-narrow style text.cs (border_text edge (column ∷ columns)) text.spell text.narrow,
       text.many,
     )
 

@@ -10,7 +10,7 @@ use Rattle.term_text.specs.Graph.{Grapheme, columns, visible, is_visible, width_
 use Rattle.term_text.specs.Text.{SpanView}
 use Rattle.std.specs.Str.{chars}
 use Rattle.term_text.specs.Iter.{graphs_left, pieces_left, plain_left, stretch_left}
-use Rattle.term_text.specs.Plain.{byte_grapheme, plain_grapheme}
+use Rattle.term_text.specs.Plain.{is_narrow, byte_grapheme, plain_grapheme}
 use Rattle.term_text.specs.LineIter.{line_left}
 use Rattle.term_text.specs.Wrap.{fitting, is_blank_at, last_blank, cut_of, unless_empty}
 use Rattle.term_text.specs.Cut.{mark_of, len_of, cut_from}
@@ -45,7 +45,11 @@ AllShown-stretch style (b ∷ bs) = (omega arith, AllShown-stretch style bs)
 
 AllShown-plain : (style : Style) (cs : List ℕ) → AllShown (map (plain_grapheme style) cs)
 AllShown-plain style [] = tt
-AllShown-plain style (c ∷ cs) = (omega arith, AllShown-plain style cs)
+AllShown-plain style (c ∷ cs) = (shown (is_narrow c), AllShown-plain style cs)
+  where
+    shown : (narrow : Bool) → 0 < cond narrow 1 2
+    shown true = omega arith
+    shown false = omega arith
 
 pub AllShown-spans : (under : Style) (spans : List SpanView) → AllShown (spans_graphs under spans)
 unfolding spans_graphs

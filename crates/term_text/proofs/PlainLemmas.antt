@@ -1,11 +1,10 @@
--- A text of plain characters is cut into single characters, each visible and one column wide.
-use Rattle.std.proofs.Common.{◌≡◌, ℕ, ◌+◌, ◌<◌, ◌≤◌, Bool, true, false, not, cond, ◌&&◌, ◌||◌, ◌==◌, nat_le, List, [], ◌∷◌, map, length, unwrap_or, refl, ap, ap₂, ◌∙◌, arith, ⊎_elim, append-nil, zero, suc, lit<}
+-- A text of plain characters is cut into single characters, each visible and one or two columns wide.
+use Rattle.std.proofs.Common.{◌≡◌, ℕ, ◌+◌, ◌<◌, Bool, true, false, not, cond, ◌&&◌, ◌||◌, ◌==◌, nat_le, List, [], ◌∷◌, map, length, unwrap_or, refl, ap, ap₂, ◌∙◌, arith, append-nil, zero, suc, lit<}
 use Rattle.std.proofs.lemmas.Bool.{and_parts}
 use Rattle.std.proofs.lemmas.Bool.Decides.{nat_tests}
 use Rattle.std.proofs.lemmas.Str.{chars-IsAscii, IsUtf8-encode, encode_ascii}
 use Rattle.std.proofs.lemmas.List.Sums.{sum_by-cons}
-use Rattle.std.specs.Char.{is_whitespace, is_control, IsScalar}
-use Rattle.std.specs.Int.{is_in_range}
+use Rattle.std.specs.Char.{is_whitespace, is_control}
 use Rattle.std.specs.List.{list_all, list_any}
 use Rattle.std.specs.Prelude.{encode_utf8, encode_utf8_all}
 use Rattle.std.specs.Str.{chars, IsAscii}
@@ -19,9 +18,9 @@ use Rattle.unicode_width.specs.Width.{str_width}
 use Rattle.unicode_segmentation.proofs.TextLemmas.{chars-encode_utf8}
 use Rattle.term_text.specs.declared.style.Style.{Style}
 use Rattle.term_text.specs.Graph.{Grapheme, width_of, is_visible, is_blank, grapheme_of, visible, columns}
-use Rattle.term_text.specs.Plain.{is_printable, is_plain, IsPlain, IsPrintable, plain_grapheme, byte_grapheme}
-use Rattle.term_text.proofs.PlainTables.{plain_cases, grapheme_cluster_break-plain, is_consonant-plain, is_extended_pictographic-plain}
-use Rattle.term_text.proofs.PlainWidths.{str_width-plain}
+use Rattle.term_text.specs.Plain.{is_printable, is_narrow, is_wide, is_plain, IsPlain, IsPrintable, plain_width, plain_grapheme, byte_grapheme}
+use Rattle.term_text.proofs.PlainTables.{grapheme_cluster_break-plain, is_consonant-plain, is_extended_pictographic-plain, IsScalar-plain, is_control-plain, is_whitespace-plain}
+use Rattle.term_text.proofs.PlainWidths.{ascii_narrow, str_width-plain}
 
 -- ---- cutting
 
@@ -78,40 +77,20 @@ graphemes-plain text h = ap (map encode_utf8_all) (cut-plain [] (chars text) h) 
 
 -- ---- a plain character
 
-IsScalar-plain : (c : ℕ) → is_plain c ≡ true → IsScalar c
-IsScalar-plain c h = ⊎_elim (λ r. test c (omega arith)) (λ r. test c (omega arith)) (plain_cases c h)
-  where
-    test : (c : ℕ) → c < 0xD800 → IsScalar c
-    test c h = grind (arith, nat_tests)
-
 chars-plain : (c : ℕ) → is_plain c ≡ true → chars (encode_utf8 c) ≡ c ∷ []
 chars-plain c h = chars-encode_utf8 c (IsUtf8-encode c (IsScalar-plain c h))
 
-pub width_of-plain : (c : ℕ) → is_plain c ≡ true → width_of (encode_utf8 c) ≡ 1
+pub width_of-plain : (c : ℕ) → is_plain c ≡ true → width_of (encode_utf8 c) ≡ plain_width c
 width_of-plain c h = ap (str_width false) (chars-plain c h) ∙ str_width-plain c h
-
-is_control-plain : (c : ℕ) → is_plain c ≡ true → is_control c ≡ false
-is_control-plain c h = ⊎_elim (λ r. low c r.0 r.1) (λ r. high c r.0) (plain_cases c h)
-  where
-    low : (c : ℕ) → 0x20 ≤ c → c < 0x20 + 95 → is_control c ≡ false
-    low c lo hi = grind (arith, nat_tests)
-
-    high : (c : ℕ) → 0x2500 ≤ c → is_control c ≡ false
-    high c lo = grind (arith, nat_tests)
-
-is_whitespace-plain : (c : ℕ) → is_plain c ≡ true → is_whitespace c ≡ (c == 32)
-is_whitespace-plain c h = ⊎_elim (λ r. low c r.0 r.1) (λ r. high c r.0 r.1) (plain_cases c h)
-  where
-    low : (c : ℕ) → 0x20 ≤ c → c < 0x20 + 95 → is_whitespace c ≡ (c == 32)
-    low c lo hi = grind (arith, nat_tests)
-
-    high : (c : ℕ) → 0x2500 ≤ c → c < 0x2500 + 128 → is_whitespace c ≡ (c == 32)
-    high c lo hi = grind (arith, nat_tests)
 
 pub is_visible-plain : (c : ℕ) → is_plain c ≡ true → is_visible (encode_utf8 c) ≡ true
 is_visible-plain c h =
     ap₂ (λ cs w. not (list_any is_control cs) && nat_le 1 w) (chars-plain c h) (width_of-plain c h)
-    ∙ ap (λ b. not (b || false) && nat_le 1 1) (is_control-plain c h)
+    ∙ ap₂ (λ b v. not (b || false) && v) (is_control-plain c h) (shown (is_narrow c))
+  where
+    shown : (narrow : Bool) → nat_le 1 (cond narrow 1 2) ≡ true
+    shown true = refl
+    shown false = refl
 
 pub is_blank-plain : (c : ℕ) → is_plain c ≡ true → is_blank (encode_utf8 c) ≡ (c == 32)
 is_blank-plain c h = ap (list_all is_whitespace) (chars-plain c h) ∙ and_true (is_whitespace c) ∙ is_whitespace-plain c h
@@ -138,18 +117,31 @@ visible-characters style (c ∷ cs) h =
 pub visible-plain : (style : Style) (text : List ℕ) → IsPlain text → visible style (graphemes true text) ≡ map (plain_grapheme style) (chars text)
 visible-plain style text h = ap (visible style) (graphemes-plain text h) ∙ visible-characters style (chars text) h
 
--- they are as many columns as characters
-pub columns-plain : (style : Style) (cs : List ℕ) → columns (map (plain_grapheme style) cs) ≡ length cs
-columns-plain style [] = refl
-columns-plain style (c ∷ cs) = sum_by-cons (λ (g : Grapheme). g.width) (plain_grapheme style c) (map (plain_grapheme style) cs) ∙ one _ _ (columns-plain style cs)
+narrow_one : (c : ℕ) → is_narrow c ≡ true → plain_width c ≡ 1
+narrow_one c h = ap (λ b. cond b 1 2) h
+
+-- those of one column are as many columns as characters
+pub columns-narrow : (style : Style) (cs : List ℕ) → list_all is_narrow cs ≡ true → columns (map (plain_grapheme style) cs) ≡ length cs
+columns-narrow style [] h = refl
+columns-narrow style (c ∷ cs) h =
+    let parts = and_parts (is_narrow c) (list_all is_narrow cs) h in
+    sum_by-cons (λ (g : Grapheme). g.width) (plain_grapheme style c) (map (plain_grapheme style) cs)
+    ∙ one (plain_width c) _ _ (narrow_one c parts.0) (columns-narrow style cs parts.1)
   where
-    one : (m n : ℕ) → m ≡ n → 1 + m ≡ suc n
-    one m n e = omega arith
+    one : (w m n : ℕ) → w ≡ 1 → m ≡ n → w + m ≡ suc n
+    one w m n is e = omega arith
+
+-- and plain
+pub plain_from_narrow : (cs : List ℕ) → list_all is_narrow cs ≡ true → list_all is_plain cs ≡ true
+plain_from_narrow [] h = refl
+plain_from_narrow (c ∷ cs) h =
+    let parts = and_parts (is_narrow c) (list_all is_narrow cs) h in
+    ap₂ (λ a b. (a || is_wide c) && b) parts.0 (plain_from_narrow cs parts.1)
 
 -- ---- printable ASCII
 
-printable_plain : (b : ℕ) → is_printable b ≡ true → is_plain b ≡ true
-printable_plain b h = ap (λ v. v || is_in_range 0x2500 0x257F b) h
+printable_narrow : (b : ℕ) → is_printable b ≡ true → is_narrow b ≡ true
+printable_narrow b h = ascii_narrow b (grind (arith, nat_tests, h)) (grind (arith, nat_tests, h))
 
 printable_ascii : (b : ℕ) → is_printable b ≡ true → b < 128
 printable_ascii b h = grind (arith, nat_tests)
@@ -166,7 +158,7 @@ plain_from_printable : (text : List ℕ) → IsPrintable text → list_all is_pl
 plain_from_printable [] h = refl
 plain_from_printable (b ∷ bs) h =
     let parts = and_parts (is_printable b) (list_all is_printable bs) h in
-    ap₂ (λ a c. a && c) (printable_plain b parts.0) (plain_from_printable bs parts.1)
+    ap₂ (λ a c. (a || is_wide b) && c) (printable_narrow b parts.0) (plain_from_printable bs parts.1)
 
 -- a printable text is plain
 pub IsPlain-printable : (text : List ℕ) → IsPrintable text → IsPlain text
@@ -179,8 +171,8 @@ bytes-characters : (style : Style) (bs : List ℕ) → IsPrintable bs → map (p
 bytes-characters style [] h = refl
 bytes-characters style (b ∷ bs) h =
     let parts = and_parts (is_printable b) (list_all is_printable bs) h in
-    let make = λ (symbol : List ℕ). let g : Grapheme = record { symbol = symbol; style = style; width = 1; blank = b == 32 } in g in
-    ap₂ ◌∷◌ (ap make (encode_utf8-printable b parts.0)) (bytes-characters style bs parts.1)
+    let make = λ (symbol : List ℕ) (w : ℕ). let g : Grapheme = record { symbol = symbol; style = style; width = w; blank = b == 32 } in g in
+    ap₂ ◌∷◌ (ap₂ make (encode_utf8-printable b parts.0) (narrow_one b (printable_narrow b parts.0))) (bytes-characters style bs parts.1)
 
 -- the visible graphemes of printable ASCII are its bytes
 pub visible-printable : (style : Style) (text : List ℕ) → IsPrintable text → visible style (graphemes true text) ≡ map (byte_grapheme style) text

@@ -1,11 +1,9 @@
 -- The widths of plain characters.
-use Rattle.std.proofs.Common.{◌≡◌, ℕ, ◌+◌, ◌-◌, ◌<◌, ◌≤◌, Bool, true, false, ◌&&◌, ◌||◌, ◌==◌, nat_lt, nat_le, refl, sym, ap, ◌∙◌, arith, ⊎_elim, [], ◌∷◌, List, cond, unwrap_or, Some, None}
+use Rattle.std.proofs.Common.{◌≡◌, ℕ, ◌+◌, ◌≤◌, Bool, true, false, ◌&&◌, ◌||◌, ◌==◌, nat_lt, nat_le, drop, refl, sym, ap, ◌∙◌, arith, ⊎_elim, [], ◌∷◌, cond, unwrap_or, Some, None}
 use Rattle.std.specs.Int.{is_in_range}
 use Rattle.std.proofs.lemmas.List.Sums.{sum_by-cons}
 use Rattle.std.proofs.lemmas.Bool.Decides.{nat_tests}
-use Rattle.ucd_table.specs.Steps.{Step, step_value}
-use Rattle.ucd_table.proofs.Stepped.{runs_of, step_value-runs_of}
-use Rattle.ucd_table.proofs.TrieCheck.{all_below, all_below-at}
+use Rattle.ucd_table.specs.Rows.{in_ranges}
 use Rattle.ucd_table.proofs.Computing.{tables}
 use Rattle.unicode_width.specs.Kind.{kind, kind_number, number_of_kind}
 use Rattle.unicode_width.specs.declared.kind.Kind.{Kind}
@@ -13,84 +11,98 @@ use Rattle.unicode_width.specs.declared.kind.Kind.TheVariants as kinds
 use Rattle.unicode_width.specs.Width.{str_width, alone, of_kind, char_width}
 use Rattle.unicode_width.proofs.KindLemmas.{kind_number_stepped}
 use Rattle.unicode_width.proofs.Rules.{is_simple, is_simple_kind, width_or_zero, str_width-simple}
-use Rattle.term_text.specs.Plain.{is_plain}
-use Rattle.term_text.proofs.PlainTables.{plain_cases}
+use Rattle.term_text.specs.Plain.{narrow_ranges, is_narrow, is_wide, is_plain, plain_width}
+use Rattle.term_text.proofs.PlainTables.{narrow_stepped, wide_stepped, where_passes, plain_cases}
 
 -- narrow or ambiguous
 abbrev is_one : ℕ → Bool
 is_one n = n == 1 || n == 3
 
-ones_from : ℕ → ℕ → List (Step ℕ) → Bool
-ones_from from n ss = all_below (λ k. is_one (step_value 0 ss (from + k))) n
+narrow_kind : (c : ℕ) → is_narrow c ≡ true → is_one (number_of_kind (kind c)) ≡ true
+unfolding tables kind_number kind_number_stepped narrow_stepped
+narrow_kind = where_passes is_narrow kind_number narrow_stepped kind_number_stepped is_one refl
 
-boxes : ones_from 0x2500 128 (runs_of (λ c. kind_number c) kind_number_stepped) ≡ true
-unfolding tables kind_number_stepped ones_from
-boxes = refl
+wide_kind : (c : ℕ) → is_wide c ≡ true → (number_of_kind (kind c) == 2) ≡ true
+unfolding tables kind_number kind_number_stepped wide_stepped
+wide_kind = where_passes is_wide kind_number wide_stepped kind_number_stepped (λ n. n == 2) refl
 
--- a box-drawing character is narrow or ambiguous
-box_kind : (c : ℕ) → 0x2500 ≤ c → c < 0x2500 + 128 → is_one (number_of_kind (kind c)) ≡ true
-unfolding kind_number ones_from
-box_kind c lo hi =
-    let ss : List (Step ℕ) = runs_of (λ c. kind_number c) kind_number_stepped in
-    let at : 0x2500 + (c - 0x2500) ≡ c = omega arith in
-    ap is_one (sym (step_value-runs_of (λ c. kind_number c) kind_number_stepped c (omega arith)))
-    ∙ ap (λ (x : ℕ). is_one (step_value 0 ss x)) (sym at)
-    ∙ all_below-at (λ k. is_one (step_value 0 ss (0x2500 + k))) 128 (c - 0x2500) boxes (omega arith)
+-- what a kind's number says of it
+record IsKindOf (k : Kind) (w : ℕ) : Type 0 where
+  simple : is_simple_kind k ≡ true
+  width : (c : ℕ) → (of_kind false c k).0 ≡ w
 
-one_is_simple : (k : Kind) → is_one (number_of_kind k) ≡ true → is_simple_kind k ≡ true
-one_is_simple kinds.Zero h = cc
-one_is_simple kinds.Narrow h = refl
-one_is_simple kinds.Wide h = cc
-one_is_simple kinds.Ambiguous h = refl
-one_is_simple kinds.Alef h = cc
-one_is_simple kinds.KhmerLetter h = cc
-one_is_simple kinds.TifinaghConsonant h = cc
-one_is_simple kinds.LisuTone h = cc
-one_is_simple kinds.RegionalIndicator h = cc
-one_is_simple kinds.EmojiModifier h = cc
-one_is_simple kinds.Emoji h = cc
-one_is_simple kinds.Single h = cc
+of_one : (k : Kind) → is_one (number_of_kind k) ≡ true → IsKindOf k 1
+of_one kinds.Zero h = cc
+of_one kinds.Narrow h = record { simple = refl; width = λ c. refl }
+of_one kinds.Wide h = cc
+of_one kinds.Ambiguous h = record { simple = refl; width = λ c. refl }
+of_one kinds.Alef h = cc
+of_one kinds.KhmerLetter h = cc
+of_one kinds.TifinaghConsonant h = cc
+of_one kinds.LisuTone h = cc
+of_one kinds.RegionalIndicator h = cc
+of_one kinds.EmojiModifier h = cc
+of_one kinds.Emoji h = cc
+of_one kinds.Single h = cc
 
-one_is_wide : (c : ℕ) (k : Kind) → is_one (number_of_kind k) ≡ true → (of_kind false c k).0 ≡ 1
-one_is_wide c kinds.Zero h = cc
-one_is_wide c kinds.Narrow h = refl
-one_is_wide c kinds.Wide h = cc
-one_is_wide c kinds.Ambiguous h = refl
-one_is_wide c kinds.Alef h = cc
-one_is_wide c kinds.KhmerLetter h = cc
-one_is_wide c kinds.TifinaghConsonant h = cc
-one_is_wide c kinds.LisuTone h = cc
-one_is_wide c kinds.RegionalIndicator h = cc
-one_is_wide c kinds.EmojiModifier h = cc
-one_is_wide c kinds.Emoji h = cc
-one_is_wide c kinds.Single h = cc
+of_two : (k : Kind) → (number_of_kind k == 2) ≡ true → IsKindOf k 2
+of_two kinds.Zero h = cc
+of_two kinds.Narrow h = cc
+of_two kinds.Wide h = record { simple = refl; width = λ c. refl }
+of_two kinds.Ambiguous h = cc
+of_two kinds.Alef h = cc
+of_two kinds.KhmerLetter h = cc
+of_two kinds.TifinaghConsonant h = cc
+of_two kinds.LisuTone h = cc
+of_two kinds.RegionalIndicator h = cc
+of_two kinds.EmojiModifier h = cc
+of_two kinds.Emoji h = cc
+of_two kinds.Single h = cc
+
+kind_of-plain : (c : ℕ) → is_plain c ≡ true → IsKindOf (kind c) (plain_width c)
+kind_of-plain c h = go (is_narrow c) refl h
+  where
+    go : (b : Bool) → is_narrow c ≡ b → (b || is_wide c) ≡ true → IsKindOf (kind c) (cond b 1 2)
+    go true e h = of_one (kind c) (narrow_kind c e)
+    go false e h = of_two (kind c) (wide_kind c h)
 
 plain_simple : (c : ℕ) → is_plain c ≡ true → is_simple c ≡ true
 plain_simple c h =
-    ⊎_elim (λ r. test c r.0 r.1)
-    (λ r. high c (is_simple_kind (kind c)) r.0 (one_is_simple (kind c) (box_kind c r.0 r.1))) (plain_cases c h)
+    ⊎_elim (λ r. low c (is_simple_kind (kind c)) r.0 r.1) (λ r. high c (is_simple_kind (kind c)) r (kind_of-plain c h).simple) (plain_cases c h)
   where
-    high : (c : ℕ) (k : Bool) → 0x2500 ≤ c → k ≡ true → (is_in_range 0x20 0x7E c || (nat_lt 0xA0 c && k)) ≡ true
+    low : (c : ℕ) (k : Bool) → 0x20 ≤ c → c ≤ 0x7E → (is_in_range 0x20 0x7E c || (nat_lt 0xA0 c && k)) ≡ true
+    low c k lo hi = grind (arith, nat_tests)
+
+    high : (c : ℕ) (k : Bool) → 0xA1 ≤ c → k ≡ true → (is_in_range 0x20 0x7E c || (nat_lt 0xA0 c && k)) ≡ true
     high c k lo is = grind (arith, nat_tests)
 
-    test : (c : ℕ) → 0x20 ≤ c → c < 0x20 + 95 → is_simple c ≡ true
-    test c lo hi = ap (λ b. b || (nat_lt 0xA0 c && is_simple_kind (kind c))) (low c lo hi)
-      where
-        low : (c : ℕ) → 0x20 ≤ c → c < 0x20 + 95 → is_in_range 0x20 0x7E c ≡ true
-        low c lo hi = grind (arith, nat_tests)
-
-plain_width : (c : ℕ) → is_plain c ≡ true → width_or_zero false c ≡ 1
-unfolding char_width alone
-plain_width c h = ⊎_elim (λ r. low c (alone false c).0 r.0 r.1) (λ r. high c (of_kind false c (kind c)).0 r.0 (one_is_wide c (kind c) (box_kind c r.0 r.1))) (plain_cases c h)
+-- printable ASCII is narrow
+pub ascii_narrow : (c : ℕ) → 0x20 ≤ c → c ≤ 0x7E → is_narrow c ≡ true
+unfolding in_ranges
+ascii_narrow c lo hi = ap (λ b. b || in_ranges (drop 1 narrow_ranges) c) (both c lo hi)
   where
-    low : (c w : ℕ) → 0x20 ≤ c → c < 0x20 + 95 → unwrap_or (cond (nat_lt c 0x7F) (cond (nat_le 0x20 c) (Some 1) None) (cond (nat_le 0xA0 c) (Some w) None)) 0 ≡ 1
+    both : (c : ℕ) → 0x20 ≤ c → c ≤ 0x7E → (nat_le 0x20 c && nat_le c 0x7E) ≡ true
+    both c lo hi = grind (arith, nat_tests)
+
+ascii_width : (c : ℕ) → 0x20 ≤ c → c ≤ 0x7E → plain_width c ≡ 1
+ascii_width c lo hi = ap (λ b. cond b 1 2) (ascii_narrow c lo hi)
+
+plain_width-is : (c : ℕ) → is_plain c ≡ true → width_or_zero false c ≡ plain_width c
+unfolding char_width alone
+plain_width-is c h =
+    ⊎_elim (λ r. low c (alone false c).0 r.0 r.1 ∙ sym (ascii_width c r.0 r.1))
+    (λ r. high c (of_kind false c (kind c)).0 (plain_width c) r ((kind_of-plain c h).width c)) (plain_cases c h)
+  where
+    low : (c w : ℕ) → 0x20 ≤ c → c ≤ 0x7E → unwrap_or (cond (nat_lt c 0x7F) (cond (nat_le 0x20 c) (Some 1) None) (cond (nat_le 0xA0 c) (Some w) None)) 0 ≡ 1
     low c w lo hi = grind (arith, nat_tests)
 
-    high : (c w : ℕ) → 0x2500 ≤ c → w ≡ 1 → unwrap_or (cond (nat_lt c 0x7F) (cond (nat_le 0x20 c) (Some 1) None) (cond (nat_le 0xA0 c) (Some w) None)) 0 ≡ 1
-    high c w lo is = grind (arith, nat_tests)
+    high : (c w v : ℕ) → 0xA1 ≤ c → w ≡ v → unwrap_or (cond (nat_lt c 0x7F) (cond (nat_le 0x20 c) (Some 1) None) (cond (nat_le 0xA0 c) (Some w) None)) 0 ≡ v
+    high c w v lo is = grind (arith, nat_tests)
 
--- a plain character is one column wide
-pub str_width-plain : (c : ℕ) → is_plain c ≡ true → str_width false (c ∷ []) ≡ 1
+pub str_width-plain : (c : ℕ) → is_plain c ≡ true → str_width false (c ∷ []) ≡ plain_width c
 str_width-plain c h =
     str_width-simple false (c ∷ []) (ap (λ b. b && true) (plain_simple c h))
-    ∙ sum_by-cons (width_or_zero false) c [] ∙ ap (λ n. n + 0) (plain_width c h)
+    ∙ sum_by-cons (width_or_zero false) c [] ∙ ap (λ n. n + 0) (plain_width-is c h) ∙ add_zero (plain_width c)
+  where
+    add_zero : (n : ℕ) → n + 0 ≡ n
+    add_zero n = omega arith

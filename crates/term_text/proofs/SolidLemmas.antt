@@ -1,47 +1,57 @@
 -- A walk that takes plain characters at once.
-use Rattle.std.proofs.Common.{◌≡◌, ℕ, zero, suc, ◌+◌, ◌-◌, ◌≤◌, ◌==◌, Bool, true, false, List, [], ◌∷◌, ◌++◌, map, length, refl, sym, ap, ap₂, ◌∙◌, subst, arith}
+use Rattle.std.proofs.Common.{◌≡◌, ℕ, zero, suc, ◌+◌, ◌-◌, ◌≤◌, ◌==◌, Bool, true, false, List, [], ◌∷◌, ◌++◌, cond, not, map, length, refl, sym, ap, ap₂, ◌∙◌, subst, arith}
 use Rattle.std.proofs.lemmas.Bool.{and_parts}
 use Rattle.std.proofs.lemmas.Bool.Decides.{nat_tests}
-use Rattle.std.specs.List.{list_all}
 use Rattle.term_text.specs.declared.style.Style.{Style}
 use Rattle.term_text.specs.Cut.{cut_from, mark_of}
 use Rattle.term_text.specs.Graph.{Grapheme}
-use Rattle.std.specs.Str.{chars}
-use Rattle.std.proofs.lemmas.Str.{chars-nil}
-use Rattle.term_text.specs.Plain.{byte_grapheme, plain_grapheme}
-use Rattle.term_text.specs.Solid.{AreSolid, is_solid}
+use Rattle.term_text.specs.Plain.{is_narrow, plain_width, byte_grapheme, plain_grapheme}
+use Rattle.term_text.specs.Solid.{AreSolid, SolidFront, is_solid}
 use Rattle.term_text.proofs.CutLemmas.{cut_from-go}
 
-pub solid-front : (style : Style) (cs : List ℕ) (rest : List Grapheme) → list_all is_solid cs ≡ true → AreSolid (length cs) (map (plain_grapheme style) cs ++ rest) rest
-unfolding AreSolid
-solid-front style [] rest h = refl
-solid-front style (c ∷ cs) rest h =
-    let parts = and_parts (is_solid c) (list_all is_solid cs) h in
-    (refl, no_space c parts.0, solid-front style cs rest parts.1)
+from_not : (b : Bool) → not b ≡ true → b ≡ false
+from_not true h = sym h
+from_not false h = refl
+
+-- the plain characters in front, with what stands behind them
+solid-front : (style : Style) (n : ℕ) (cs ds : List ℕ) (shown : List Grapheme) → SolidFront n cs ds
+    → AreSolid n (map (plain_grapheme style) cs ++ shown) (map (plain_grapheme style) ds ++ shown)
+unfolding SolidFront AreSolid
+solid-front style zero cs ds shown h = ap (λ (xs : List ℕ). map (plain_grapheme style) xs ++ shown) h
+solid-front style (suc n) [] ds shown h = absurd h
+solid-front style (suc n) (c ∷ cs) ds shown h = (one_column c h.0, no_space c h.0, solid-front style n cs ds shown h.1)
   where
+    one_column : (c : ℕ) → is_solid c ≡ true → plain_width c ≡ 1
+    one_column c h = ap (λ b. cond b 1 2) (and_parts (is_narrow c) (not (c == 32)) h).0
+
     no_space : (c : ℕ) → is_solid c ≡ true → (c == 32) ≡ false
-    no_space c h = grind (arith, nat_tests)
+    no_space c h = from_not (c == 32) (and_parts (is_narrow c) (not (c == 32)) h).1
 
-pub AreSolid-none : (gs : List Grapheme) → AreSolid 0 gs gs
+-- behind no printable bytes
+pub AreSolid-plain : (style : Style) (bs cs ds : List ℕ) (shown : List Grapheme) (n : ℕ) → bs ≡ [] → SolidFront n cs ds
+    → AreSolid n (map (byte_grapheme style) bs ++ (map (plain_grapheme style) cs ++ shown)) (map (byte_grapheme style) bs ++ (map (plain_grapheme style) ds ++ shown))
+AreSolid-plain style bs cs ds shown n none h =
+    subst (λ (xs : List ℕ). AreSolid n (map (byte_grapheme style) xs ++ (map (plain_grapheme style) cs ++ shown)) (map (byte_grapheme style) xs ++ (map (plain_grapheme style) ds ++ shown))) (sym none)
+    (solid-front style n cs ds shown h)
+
+-- none are passed
+pub AreSolid-none : (n : ℕ) (gs rest : List Grapheme) → n ≡ 0 → AreSolid n gs rest → rest ≡ gs
 unfolding AreSolid
-AreSolid-none gs = refl
+AreSolid-none zero gs rest none h = sym h
+AreSolid-none (suc n) gs rest none h = absurd (omega (arith, none))
 
--- the plain characters behind no printable bytes are passed
-pub AreSolid-plain : (style : Style) (bs cs : List ℕ) (shown : List Grapheme) (n : ℕ) → bs ≡ [] → n ≡ length cs → list_all is_solid cs ≡ true
-    → AreSolid n (map (byte_grapheme style) bs ++ (map (plain_grapheme style) cs ++ shown)) (map (byte_grapheme style) bs ++ (map (plain_grapheme style) (chars []) ++ shown))
-AreSolid-plain style bs cs shown n none size h =
-    subst (λ (xs : List ℕ). AreSolid n (map (byte_grapheme style) xs ++ (map (plain_grapheme style) cs ++ shown)) (map (byte_grapheme style) xs ++ (map (plain_grapheme style) (chars []) ++ shown))) (sym none)
-    (subst (λ (xs : List ℕ). AreSolid n (map (plain_grapheme style) cs ++ shown) (map (plain_grapheme style) xs ++ shown)) (sym chars-nil)
-    (subst (λ (k : ℕ). AreSolid k (map (plain_grapheme style) cs ++ shown) shown) (sym size) (solid-front style cs shown h)))
+SolidFront-suc : (n : ℕ) (cs ds : List ℕ) (c : ℕ) → SolidFront n cs (c ∷ ds) → is_solid c ≡ true → SolidFront (suc n) cs ds
+unfolding SolidFront
+SolidFront-suc zero cs ds c h solid = subst (λ (xs : List ℕ). SolidFront 1 xs ds) (sym h) (solid, refl)
+SolidFront-suc (suc n) [] ds c h solid = absurd h
+SolidFront-suc (suc n) (x ∷ cs) ds c h solid = (h.0, SolidFront-suc n cs ds c h.1 solid)
 
--- none are passed where there are none
-pub no_plain : (style : Style) (bs cs : List ℕ) (shown : List Grapheme) → length cs ≡ 0
-    → map (byte_grapheme style) bs ++ (map (plain_grapheme style) (chars []) ++ shown) ≡ map (byte_grapheme style) bs ++ (map (plain_grapheme style) cs ++ shown)
-no_plain style bs cs shown none = ap (λ (xs : List ℕ). map (byte_grapheme style) bs ++ (map (plain_grapheme style) xs ++ shown)) (chars-nil ∙ sym (no_items cs none))
+-- one more
+pub SolidFront-more : (n : ℕ) (cs ds : List ℕ) (c : ℕ) → SolidFront n cs (c ∷ ds) → is_solid c ≡ true → SolidFront (n + 1) cs ds
+SolidFront-more n cs ds c h solid = subst (λ (k : ℕ). SolidFront k cs ds) one (SolidFront-suc n cs ds c h solid)
   where
-    no_items : (xs : List ℕ) → length xs ≡ 0 → xs ≡ []
-    no_items [] h = refl
-    no_items (x ∷ xs) h = absurd (omega arith)
+    one : suc n ≡ n + 1
+    one = omega arith
 
 pub AreSolid-append : (n : ℕ) (gs rest more : List Grapheme) → AreSolid n gs rest → AreSolid n (gs ++ more) (rest ++ more)
 unfolding AreSolid

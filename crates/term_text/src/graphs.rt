@@ -9,7 +9,7 @@ ghost use Rattle.term_text.specs.Solid.{AreSolid};
 
 use crate::grapheme::Graph;
 use crate::pieces::{copied, graph_of};
-use crate::plain::{first_char, solid_count};
+use crate::plain::{first_char, plain_width, solid_front};
 use crate::style::Style;
 use crate::text::Span;
 use std::alloc::AllocError;
@@ -21,7 +21,7 @@ pub struct Graphemes<'a> {
     // A text of printable ASCII, whose bytes come first, and how many of them are passed.
     stretch: &'a str,
     passed: usize,
-    // Characters that are each a grapheme of one column, which come next.
+    // Characters that are each a grapheme of one or two columns, which come next.
     plain: &'a str,
     glyph: Option<&'a str>,
     // The clusters of any other text.
@@ -176,20 +176,16 @@ impl<'a> Graphemes<'a> {
         }
     }
 
-    /// Passes over the plain characters in front, if they are at most so many and none is a space, and tells how many.
+    /// Passes over the plain characters of one column in front, at most so many and up to a space, and tells how many.
     pub(crate) fn pass_solid(&mut self, most: usize) -> usize
         requires { stretch_left self.old ≡ [] }
         ensures solid { AreSolid result (graphs_left self.old) (graphs_left self.new) }
         ensures none { result ≡ 0 → graphs_left self.new ≡ graphs_left self.old }
         ensures within { result ≤ most }
     {
-        match solid_count(self.plain) {
-            Some(count) if count <= most => {
-                self.plain = "";
-                count
-            }
-            _ => 0,
-        }
+        let (count, rest) = solid_front(self.plain, most);
+        self.plain = rest;
+        count
     }
 
     /// The first of the plain characters, behind the printable bytes.
@@ -205,7 +201,7 @@ impl<'a> Graphemes<'a> {
                 Some(Graph {
                     symbol,
                     style: self.style,
-                    width: 1,
+                    width: plain_width(c),
                     blank: c == ' ',
                 })
             }

@@ -24,8 +24,10 @@ pub fn wrap_unfolds()
         → wrap w gs ≡ take (cut_of w gs) gs ∷ unless_empty (rest_of w gs) (wrap w (rest_of w gs)) }
 {}
 
-/// The visible graphemes of a text of plain characters are its characters, each one column wide and blank only as a space;
-/// those of printable ASCII are its bytes. Plain are the printable ASCII and the box-drawing characters.
+/// The visible graphemes of a text of plain characters are its characters, each one or two columns wide and blank only as
+/// a space; those of printable ASCII are its bytes. Plain of one column are printable ASCII, Latin, Greek and Cyrillic
+/// characters, punctuation, currencies, arrows, operators, lines and blocks, in the ranges of the definition; of two
+/// columns ideographs, kana and full-width forms.
 pub fn plain_texts_are_single_characters()
     ensures plain { (style : Style) (text : List ℕ) → IsPlain text → visible style (graphemes true text) ≡ map (plain_grapheme style) (chars text) }
     ensures printable { (style : Style) (text : List ℕ) → IsPrintable text → visible style (graphemes true text) ≡ map (byte_grapheme style) text }

@@ -89,7 +89,7 @@ impl<'t, 'a> LineGraphemes<'t, 'a> {
         self.refill();
     }
 
-    /// Passes over the plain characters in front, if they are at most so many and none is a space, and tells how many.
+    /// Passes over the plain characters of one column in front, at most so many and up to a space, and tells how many.
     pub(crate) fn pass_solid(&mut self, most: usize) -> usize
         requires { stretch_left self.old.current ≡ [] }
         ensures solid { AreSolid result (line_left self.old) (line_left self.new) }

@@ -46,7 +46,11 @@ fn rows_end_before_the_last_blank_that_fits(rt: HostRuntime) -> Result<(), Fail>
         // Wide characters, and one that is put together.
         ("漢字かな", 5, "漢字|かな|", 2),
         ("e\u{301}e\u{301} x", 2, "e\u{301}e\u{301}|x|", 2),
+        // Other characters that are graphemes by themselves, of one column and of two.
         ("──┼──", 3, "──┼|──|", 2),
+        ("──── ──", 3, "───|─|──|", 3),
+        ("пункт один", 5, "пункт|один|", 2),
+        ("漢字 かな。", 4, "漢字|かな|。|", 3),
         ("  a", 2, " |a|", 2),
         ("", 1, "|", 1),
     ];

@@ -1,4 +1,4 @@
-use Rattle.std.proofs.Common.{◌==◌, List, ℕ, ◌∷◌, ◌++◌, map, refl, ap, sym, ◌∙◌}
+use Rattle.std.proofs.Common.{◌==◌, List, ℕ, ◌∷◌, ◌++◌, map, refl, ap, ap₂, sym, ◌∙◌}
 use Rattle.std.specs.Str.{chars}
 use Rattle.std.proofs.lemmas.Str.{chars-nil}
 use Rattle.term_text.specs.Graph.{Grapheme, visible}
@@ -18,9 +18,9 @@ returns-in-Some c =
     let s = c.args.self.now in
     let shown : List Grapheme = visible s.style (pieces_left s) in
     let parts = c.in-Some.ensures in
-    let make = λ (symbol : List ℕ). let g : Grapheme = record { symbol = symbol; style = s.style; width = 1; blank = c.in-Some.c == 32 } in g in
+    let make = λ (symbol : List ℕ) (w : ℕ). let g : Grapheme = record { symbol = symbol; style = s.style; width = w; blank = c.in-Some.c == 32 } in g in
     let more : List Grapheme = map (plain_grapheme s.style) (chars c.in-Some.rest.now) ++ shown in
     ap (λ bs. map (byte_grapheme s.style) bs ++ (map (plain_grapheme s.style) (chars s.plain.now) ++ shown)) c.requires
     ∙ ap (λ cs. map (plain_grapheme s.style) cs ++ shown) parts.0
-    ∙ ap (λ symbol. make symbol ∷ more) (sym parts.1)
-    ∙ ap (λ bs. make c.in-Some.symbol.now ∷ (map (byte_grapheme s.style) bs ++ more)) (sym c.requires)
+    ∙ ap₂ (λ symbol w. make symbol w ∷ more) (sym parts.1) (sym c.plain_width.ensures)
+    ∙ ap (λ bs. make c.in-Some.symbol.now c.plain_width.result ∷ (map (byte_grapheme s.style) bs ++ more)) (sym c.requires)
