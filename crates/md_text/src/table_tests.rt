@@ -209,6 +209,7 @@ fn tables_of_texts_are_drawn(rt: HostRuntime) -> Result<(), Fail> {
 #[test]
 fn a_table_of_a_text_has_the_styles_of_the_sheet(rt: HostRuntime) -> Result<(), Fail> {
     let input = "| Name | 漢 |\n|:---|-:|\n| API | b |";
+    assert!(rt; built(input));
     let text = from_str_with_options(rt.alloc(), input, &Options::default(), &NoHighlight)?;
     let drawn = drawn(rt.alloc(), &text)?;
     assert_eq!(rt;
