@@ -5,3 +5,4 @@ pub mod StyleLemmas
 pub mod VisitedLemmas
 pub mod ShownLemmas
 pub mod BufferRowsLemmas
+pub mod CaptionLemmas

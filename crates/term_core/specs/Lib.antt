@@ -12,6 +12,8 @@ pub use Rattle.term_text.specs.Counted
 pub use Rattle.term_text.specs.Stack
 pub mod Rect
 pub mod Cells
+pub mod Paint
+pub mod Caption
 pub mod Buffers
 pub mod BufferRows
 pub mod BufferRowsIter

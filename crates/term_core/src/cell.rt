@@ -60,11 +60,11 @@ impl Cell {
     }
 
     /// The same cell again. A symbol of at most 8 bytes takes no memory and is never refused.
-    pub fn try_clone(&self) -> Result<Cell, AllocError>
+    pub fn try_clone(&self, alloc: Global) -> Result<Cell, AllocError>
         ensures ok { IfOk result (λ c. c ≡ self.now) }
         ensures succeeds { length self.now.symbol ≤ 8 → IsOk result }
     {
-        match SmallVec::from_slice(*self.symbol.allocator(), self.symbol.as_slice()) {
+        match SmallVec::from_slice(alloc, self.symbol.as_slice()) {
             Ok(symbol) => Ok(Cell {
                 symbol,
                 fg: self.fg,
@@ -141,5 +141,13 @@ impl Cell {
             self.bg = color;
         }
         self.modifier = self.modifier.union(style.add).difference(style.sub);
+    }
+
+    /// Makes the symbol of another cell the symbol. Takes no memory.
+    pub fn set_symbol_of(&mut self, other: Cell)
+        ensures { self.new ≡ record self.old { symbol = other.symbol } }
+    {
+        let Cell { symbol, .. } = other;
+        self.symbol = symbol;
     }
 }

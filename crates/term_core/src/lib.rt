@@ -6,7 +6,9 @@
 
 mod buffer;
 mod buffer_rows;
+mod caption;
 mod cell;
+mod paint;
 mod rect;
 #[cfg(test)]
 mod tests;
@@ -15,7 +17,9 @@ mod widget;
 
 pub use buffer::Buffer;
 pub use buffer_rows::BufferRows;
+pub use caption::Caption;
 pub use cell::Cell;
+pub use paint::Paint;
 pub use rect::Rect;
 pub use term_text::{
     Alignment, Color, Counted, CowStr, Cutter, Graph, Graphemes, Ledger, Line, LineGraphemes,

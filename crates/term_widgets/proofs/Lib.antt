@@ -2,3 +2,5 @@ pub mod LineLemmas
 pub mod RowLemmas
 pub mod PageLemmas
 pub mod ThinnedLemmas
+pub mod CutsLemmas
+pub mod ViewLemmas

@@ -23,7 +23,7 @@ shown-append : (xs ys : List (List Grapheme)) → RowsShown xs → RowsShown ys 
 shown-append [] ys p q = q
 shown-append (x ∷ xs) ys p q = (p.0, shown-append xs ys p.1 q)
 
-RowsShown-rows_of : (w : ℕ) (lines : List LineView) → RowsShown (rows_of w lines)
+pub RowsShown-rows_of : (w : ℕ) (lines : List LineView) → RowsShown (rows_of w lines)
 unfolding rows_of
 RowsShown-rows_of w [] = tt
 RowsShown-rows_of w (line ∷ lines) =
@@ -39,7 +39,7 @@ RowsTake-rows_of w lines fits = rows_take w (rows_of w lines) (narrows-rows_of w
 
 -- ---- the common part of an area and itself
 
-same_length : (a m : ℕ) → common_length a m a m ≡ m
+pub same_length : (a m : ℕ) → common_length a m a m ≡ m
 same_length a m = omega arith
 
 same_start : (a : ℕ) → max a a ≡ a

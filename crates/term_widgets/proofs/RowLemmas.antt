@@ -1,5 +1,5 @@
 -- Steps over rows and their cells.
-use Rattle.std.proofs.Common.{◌≡◌, ℕ, zero, suc, ◌+◌, ◌-◌, ◌*◌, ◌<◌, ◌≤◌, List, [], ◌∷◌, ◌++◌, length, take, drop, replicate, Option, Some, None, refl, sym, ap, ap₂, subst, ◌∙◌, arith, append_assoc, append-nil, add-zero, add-one, add_assoc}
+use Rattle.std.proofs.Common.{◌≡◌, ℕ, zero, suc, ◌+◌, ◌-◌, ◌*◌, ◌<◌, ◌≤◌, List, [], ◌∷◌, ◌++◌, length, drop, replicate, Option, Some, None, refl, sym, ap, ap₂, subst, ◌∙◌, arith, append_assoc, append-nil, add-zero, add-one, add_assoc}
 use Rattle.std.specs.List.{AllByRecursion}
 use Rattle.std.specs.Prelude.{slice_get, unwrap_or, option_map, MatchOption}
 use Rattle.std.proofs.lemmas.List.Elements.{recursion_from_All}
@@ -12,26 +12,14 @@ use Rattle.term_core.specs.Lists.{joined}
 use Rattle.term_core.specs.Rows.{row_left, row_graphs}
 use Rattle.term_core.specs.Text.{LineView}
 use Rattle.term_core.specs.Wrap.{NoneWider, wrap}
+use Rattle.term_core.proofs.ShownLemmas.{AllShown-take}
 use Rattle.term_text.proofs.CutLemmas.{AllShown, AllShown-line_left}
 use Rattle.term_text.proofs.LineLemmas.{drop_step, drop_done}
 use Rattle.term_text.proofs.RowLemmas.{AllNarrow-wrap}
-use Rattle.term_text.proofs.WrapLemmas.{Narrow, Narrow-from, NoneWider-from}
 use Rattle.term_widgets.specs.Page.{rows_of, AllFit}
 use Rattle.term_widgets.proofs.LineLemmas.{AllFit-cons}
 
-pub NoneWider-cons : (w : ℕ) (gs rest : List Grapheme) (g : Grapheme) → gs ≡ g ∷ rest → g.width ≤ w
-    → (NoneWider w rest → NoneWider w gs) × (NoneWider w gs → NoneWider w rest)
-NoneWider-cons w gs rest g e h = (
-  λ p. NoneWider-from w gs (subst (Narrow w) (sym e) (h, Narrow-from w rest p)),
-  λ p. NoneWider-from w rest (subst (Narrow w) e (Narrow-from w gs p)).1,
-)
-
 -- ---- the cells of one row
-
-AllShown-take : (n : ℕ) (gs : List Grapheme) → AllShown gs → AllShown (take n gs)
-AllShown-take zero gs h = tt
-AllShown-take (suc n) [] h = tt
-AllShown-take (suc n) (g ∷ gs) h = (h.0, AllShown-take n gs h.1)
 
 pub AllShown-row_left : (s : RowGraphemes) → AllShown (row_left s)
 unfolding row_left

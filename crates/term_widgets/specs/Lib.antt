@@ -6,4 +6,5 @@ pub use Rattle.term_core.specs.Buffers
 pub use Rattle.term_core.specs.BufferRows
 pub use Rattle.term_core.specs.Rect
 pub mod Page
+pub mod Cuts
 pub mod PageRows

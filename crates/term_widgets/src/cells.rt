@@ -53,7 +53,8 @@ pub(crate) fn push_row_or_blanks(
     width: usize,
 ) -> Result<(), AllocError>
     requires { ForSome row (λ r. columns (row_graphs r) ≤ width) }
-    ensures items { OnOk result (out.new.items ≡ out.old.items ++ cells (unwrap_or (option_map row_graphs row.entry) []) width) }
+    ensures items { OnOk result (out.new.items
+        ≡ out.old.items ++ cells (unwrap_or (option_map row_graphs row.entry) []) width) }
     ensures len { OnOk result (length out.new.items ≡ length out.old.items + width) }
 {
     match row {

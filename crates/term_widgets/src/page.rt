@@ -1,10 +1,13 @@
 // Pages of rows.
-ghost use Rattle.std.specs.Prelude.{◌≡◌, ℕ, ◌*◌, ◌^◌, ◌<◌, [], length, true, false, IsTrue, IsErrOf, OnOk, OnErr, IfOk, slice_get, if◌then◌else◌};
-ghost use Rattle.term_core.specs.Buffers.{BufferView, cell_at};
+ghost use Rattle.std.specs.Prelude.{◌≡◌, ℕ, ◌+◌, ◌*◌, ◌^◌, ◌<◌, [], length, min, true, false};
+ghost use Rattle.std.specs.Prelude.{IsTrue, IsErrOf, IsOk, OnOk, OnErr, IfOk};
+ghost use Rattle.term_core.specs.BufferRows.{area_rows};
+ghost use Rattle.term_core.specs.Buffers.{BufferView, cell_at, cell_put};
 ghost use Rattle.term_core.specs.Cells.{view};
 ghost use Rattle.term_core.specs.Lists.{joined};
-ghost use Rattle.term_core.specs.Rect.{has_place, place_of, intersection};
+ghost use Rattle.term_core.specs.Rect.{intersection, is_empty};
 ghost use Rattle.term_widgets.specs.Page.{PageView, AllFit, any_wider, page_rows, FitsPage};
+ghost use Rattle.term_widgets.specs.Cuts.{IsNotedUpTo, rows_cut, rows_cut_on};
 
 use crate::cells::push_row_or_blanks;
 use crate::lines::count_rows;
@@ -40,7 +43,7 @@ impl<'a> Page<'a> {
     /// `TooNarrow` comes exactly where a visible grapheme of the text is wider than `width`, and
     /// `Memory`, which may come in place of every answer, where there is no memory or where
     /// `usize` does not count the rows.
-    pub fn new(text: Text<'a>, width: u16) -> Result<Page<'a>, WidgetError>
+    pub fn new(_alloc: Global, text: Text<'a>, width: u16) -> Result<Page<'a>, WidgetError>
         ensures ok { IfOk result (λ p. p ≡ record { width = width; lines = text.entry }) }
         ensures fits { OnOk result (AllFit width text.entry) }
         ensures narrow { IsErrOf result WidgetError.TooNarrow → IsTrue (any_wider width text.entry) }
@@ -95,6 +98,9 @@ impl<'a> Page<'a> {
         requires { height < 2 ^ 16 }
         ensures items { IfOk result (λ v. v.items ≡ joined (view (page_rows self.now) self.now.width height scroll)) }
         ensures len { IfOk result (λ v. length v.items ≡ height * self.now.width) }
+        ensures fits { AllFit self.now.width self.now.lines }
+        ensures ticks { OnOk result (L.noted (rows_cut self.now height scroll) cuts.old cuts.new) }
+        ensures most { OnErr result (IsNotedUpTo L.noted (rows_cut self.now height scroll) cuts.old cuts.new) }
     {
         let width = self.width as usize;
         let mut rest = PageRows::new(self.text.lines(), width);
@@ -111,7 +117,11 @@ impl<'a> Page<'a> {
     ///
     /// The area cut to the buffer has to be empty or as wide as the page. Its cells become those
     /// of the rows, blank after the last row, and no other cell changes. All cells are made before
-    /// one is written, so the buffer is as before where there is no memory.
+    /// one is written, so the buffer is as before where there is no memory. On an empty area nothing is drawn, and
+    /// the draw is not refused.
+    ///
+    /// Each row that is cut, from the first row of the page to the last that is shown, is a step of `cuts`; `probes`
+    /// notes none.
     pub fn draw<L: Ledger>(
         &self,
         alloc: Global,
@@ -123,11 +133,18 @@ impl<'a> Page<'a> {
     ) -> Result<(), AllocError>
         requires { FitsPage (intersection area buf.old.area) self.now }
         ensures area { buf.new.area ≡ buf.old.area }
-        ensures ok { OnOk result ((x y : ℕ) → let cut = intersection area buf.old.area in
-            cell_at buf.new x y ≡ (if has_place cut x y
-            then slice_get (joined (view (page_rows self.now) cut.width cut.height scroll)) (place_of cut x y)
-            else cell_at buf.old x y)) }
+        ensures ok { OnOk result ((x y : ℕ) → let cut = intersection area buf.old.area in cell_at buf.new x y
+            ≡ cell_put cut (joined (view (page_rows self.now) cut.width cut.height scroll)) buf.old x y) }
+        ensures rows { let cut = intersection area buf.old.area in is_empty cut ≡ false
+            → OnOk result (area_rows buf.new cut ≡ view (page_rows self.now) cut.width cut.height scroll) }
         ensures err { OnErr result (buf.new ≡ buf.old) }
+        ensures empty { is_empty (intersection area buf.old.area) ≡ true → IsOk result }
+        ensures untouched { is_empty (intersection area buf.old.area) ≡ true → buf.new ≡ buf.old }
+        ensures probes { probes.new ≡ probes.old }
+        ensures cuts { let count = rows_cut_on (intersection area buf.old.area) self.now scroll in
+            OnOk result (L.noted count cuts.old cuts.new) }
+        ensures most { let count = rows_cut_on (intersection area buf.old.area) self.now scroll in
+            OnErr result (IsNotedUpTo L.noted count cuts.old cuts.new) }
     {
         let cut = area.intersection(buf.area());
         if cut.is_empty() {

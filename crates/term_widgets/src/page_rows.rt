@@ -1,5 +1,5 @@
 // The rows of several lines, one after another.
-ghost use Rattle.std.specs.Prelude.{◌≡◌, ◌+◌, ◌<◌, ◌++◌, length, drop};
+ghost use Rattle.std.specs.Prelude.{◌≡◌, ◌+◌, ◌<◌, ◌++◌, length, min, drop, is_some, if◌then◌else◌};
 ghost use Rattle.std.specs.Iterator.{YieldsFirstBy};
 ghost use Rattle.term_core.specs.Rows.{row_graphs};
 ghost use Rattle.term_widgets.specs.Page.{AllFit, rows_of};
@@ -33,9 +33,10 @@ impl<'t, 'a> PageRows<'t, 'a> {
         }
     }
 
-    /// The next row of the line that is being cut.
+    /// The next row of the line that is being cut, with one step noted.
     fn next_of_line<L: Ledger>(&mut self, steps: &mut Steps<L>) -> Option<Row<'t, 'a>>
         ensures row { YieldsFirstBy row_graphs line_rows self.old result self.new }
+        ensures ticks { L.noted (if is_some result then 1 else 0) steps.old steps.new }
         ensures later { later_rows self.new ≡ later_rows self.old }
         ensures place { self.new.place ≡ self.old.place }
         ensures lines { self.new.lines.now ≡ self.old.lines.now }
@@ -59,9 +60,10 @@ impl<'t, 'a> PageRows<'t, 'a> {
         self.cutter = Some(cutter);
     }
 
-    /// The next row, or `None` after the last.
+    /// The next row, with one step noted, or `None` after the last.
     pub(crate) fn next_row<L: Ledger>(&mut self, steps: &mut Steps<L>) -> Option<Row<'t, 'a>>
-        ensures { YieldsFirstBy row_graphs page_left self.old result self.new }
+        ensures row { YieldsFirstBy row_graphs page_left self.old result self.new }
+        ensures ticks { L.noted (if is_some result then 1 else 0) steps.old steps.new }
     {
         'lines: loop {
             if let Some(row) = self.next_of_line(steps) {
@@ -74,9 +76,10 @@ impl<'t, 'a> PageRows<'t, 'a> {
         }
     }
 
-    /// Passes over n rows.
+    /// Passes over n rows, or all that are left.
     pub(crate) fn pass<L: Ledger>(&mut self, n: usize, steps: &mut Steps<L>)
-        ensures { page_left self.new ≡ drop n (page_left self.old) }
+        ensures rest { page_left self.new ≡ drop n (page_left self.old) }
+        ensures ticks { L.noted (min n (length (page_left self.old))) steps.old steps.new }
     {
         for i in 0..n {
             let Some(_row) = self.next_row(steps) else {

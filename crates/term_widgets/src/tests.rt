@@ -10,7 +10,7 @@ fn page_of<'a>(alloc: Global, lines: &[&'a str], width: u16) -> Result<Page<'a>,
     for line in lines {
         text.push_line(Line::from_text(alloc, line)?)?;
     }
-    Page::new(text, width)
+    Page::new(alloc, text, width)
 }
 
 /// The symbols of a buffer, with a comma after each row.

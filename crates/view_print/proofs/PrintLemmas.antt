@@ -1,5 +1,5 @@
 -- Steps of a print.
-use Rattle.std.proofs.Common.{◌≡◌, ◌≢◌, ℕ, ◌+◌, ◌-◌, ◌<◌, ◌≤◌, false, cond, ◌==◌, List, [], ◌∷◌, ◌++◌, length, take, drop, get_or, refl, sym, ap, ◌∙◌, arith, append-nil, take_all}
+use Rattle.std.proofs.Common.{◌≡◌, ◌≢◌, ℕ, ◌+◌, ◌-◌, ◌<◌, ◌≤◌, false, cond, ◌==◌, List, [], ◌∷◌, ◌++◌, length, take, drop, get_or, refl, sym, ap, ◌∙◌, arith, append-nil}
 use Rattle.std.proofs.lemmas.Bool.Decides.{nat_tests}
 use Rattle.std.proofs.lemmas.List.{take_more, take-append-drop, take-take, drop_all, drop-append-le, length-take-le}
 use Rattle.term_core.specs.Cells.{CellView}
@@ -47,10 +47,6 @@ pub record TrimsTo (bs : List ℕ) (start end : ℕ) : Type 0 where
   pub after : start ≤ end
   pub within : end ≤ length bs
   pub same : trimmed (drop start bs) ≡ trimmed (drop start (take end bs))
-
-pub TrimsTo-all : (bs : List ℕ) (start end : ℕ) → start ≤ end → end ≡ length bs → TrimsTo bs start end
-TrimsTo-all bs start end after all =
-    record { after = after; within = omega arith; same = ap (λ t. trimmed (drop start t)) (sym (take_all end bs (omega arith))) }
 
 -- the bytes up to one, and that one
 last_byte : (bs : List ℕ) (start end b : ℕ) → start < end → end ≤ length bs → b ≡ get_or bs (end - 1) b
