@@ -7,3 +7,4 @@ pub mod TextLemmas
 pub mod Utf8Lemmas
 pub mod LawLemmas
 pub mod StyleLemmas
+pub mod RestyleLemmas

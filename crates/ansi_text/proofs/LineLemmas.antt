@@ -152,7 +152,7 @@ Reads-end begun bytes line style [] reads e =
 Reads-end begun bytes line style (b ∷ rest) reads e = absurd (omega (arith, e))
 
 -- a stretch that is not UTF-8
-bad_spans : (style : Style) (text : List ℕ) → is_utf8 text ≡ false → list_all (λ (s : SpanView). is_utf8 s.text) (text_spans style text) ≡ false
+pub bad_spans : (style : Style) (text : List ℕ) → is_utf8 text ≡ false → list_all (λ (s : SpanView). is_utf8 s.text) (text_spans style text) ≡ false
 bad_spans style [] bad = absurd (false≢true (sym bad ∙ is_utf8-from_IsUtf8 [] IsUtf8-nil))
 bad_spans style (b ∷ text) bad =
     ap (λ v. list_all (λ (s : SpanView). is_utf8 s.text) (cond v [] (plain_span (b ∷ text) style ∷ []))) (not_zero (length text)) ∙ ap (λ v. v && true) bad

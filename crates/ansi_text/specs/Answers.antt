@@ -17,3 +17,11 @@ GivesLine style bytes result =
     MatchResult result
     (λ r. (r.0 ≡ ansi_line style bytes) × (r.1 ≡ style_after_line style bytes) × (line_is_text (ansi_line style bytes) ≡ true))
     (λ e. e ≡ Utf8Error → line_is_text (ansi_line style bytes) ≡ false)
+
+-- the answer is the style after the one line of the bytes, begun in the style, each span being UTF-8; the one refusal comes
+-- exactly where some span is not
+abbrev pub GivesStyle : Style → List ℕ → Result Style Error → Type 0
+GivesStyle style bytes result =
+    MatchResult result
+    (λ after. (after ≡ style_after_line style bytes) × (line_is_text (ansi_line style bytes) ≡ true))
+    (λ e. (e ≡ Utf8Error) × (line_is_text (ansi_line style bytes) ≡ false))

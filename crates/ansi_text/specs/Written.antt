@@ -6,6 +6,10 @@ use Rattle.term_text.specs.declared.style.Color.TheVariants.{Rgb, Indexed}
 use Rattle.ansi_text.specs.declared.item.Item.{Item}
 use Rattle.ansi_text.specs.Items.{takes_color}
 
+-- a code alone
+abbrev pub code : ℕ → Item
+code n = record { code = n; color = None }
+
 -- a number of 0 to 255
 abbrev pub fits_byte : ℕ → Bool
 fits_byte n = nat_le n 255

@@ -2,9 +2,13 @@
 
 use term_text::Color;
 
-/// A code, and the colour that follows the codes 38 and 48.
-#[derive(Clone, Copy)]
-pub(crate) struct Item {
-    pub(crate) code: u8,
-    pub(crate) color: Option<Color>,
+/// An item of an SGR sequence: a code, and the colour that follows the codes 38 and 48.
+///
+/// The definitions of sequences speak of it: those that are read (`sequence`), and those that are written (`written`).
+#[derive(Clone, Copy, Debug, PartialEq, Eq)]
+pub struct Item {
+    /// The number of the code, 0 to 255.
+    pub code: u8,
+    /// The colour, which stands behind the codes 38 and 48 alone.
+    pub color: Option<Color>,
 }

@@ -16,4 +16,6 @@ mod text;
 
 pub use code::AnsiCode;
 pub use error::Error;
+pub use item::Item;
+pub use line::style_after_line;
 pub use text::{IntoText, bytes_into_text, bytes_to_text, line_into_text};

@@ -1,10 +1,11 @@
 // One line with ANSI colours.
 ghost use Rattle.std.specs.Prelude.{◌≡◌, ◌≤◌, ◌∷◌, [], ◌++◌, length, true, false, OnOk, OnErr, IfErr, MatchResult, IsUtf8, take, drop};
 ghost use Rattle.std.specs.Str.{is_utf8};
+ghost use Rattle.term_text.specs.LineEnds.{is_one_line};
 ghost use Rattle.term_text.specs.Text.{LineView, SpanView};
 ghost use Rattle.ansi_text.specs.declared.error.Error.TheVariants.{Utf8Error};
 ghost use Rattle.ansi_text.specs.Pieces.{first_escape};
-ghost use Rattle.ansi_text.specs.Answers.{GivesLine};
+ghost use Rattle.ansi_text.specs.Answers.{GivesLine, GivesStyle};
 ghost use Rattle.ansi_text.specs.Lines.{pushed};
 
 use crate::error::Error;
@@ -67,4 +68,36 @@ pub(crate) fn ansi_line<'a>(
         rest = after.rest;
     }
     Ok((line, style))
+}
+
+/// Whether a stretch is UTF-8.
+fn is_utf8(stretch: &[u8]) -> bool
+    ensures { result ≡ is_utf8 stretch.now }
+{
+    match simdutf8::compat::from_utf8(stretch) {
+        Ok(_) => true,
+        Err(_) => false,
+    }
+}
+
+/// The style after the one line of bytes that hold no LF and no CR, begun in a style, without the line itself.
+///
+/// It takes no memory. `Utf8Error` comes exactly where a stretch between sequences is not UTF-8, so where `line_into_text`
+/// refuses the same bytes, and no other refusal comes.
+pub fn style_after_line(style: Style, line: &[u8]) -> Result<Style, Error>
+    requires { is_one_line line.now ≡ true }
+    ensures { GivesStyle style line.now result }
+{
+    let mut style = style;
+    let mut rest = line;
+    while !rest.is_empty() {
+        let (stretch, escape) = first_stretch(rest);
+        if !is_utf8(stretch) {
+            return Err(Error::Utf8Error);
+        }
+        let after = past_escape(style, escape);
+        style = after.style;
+        rest = after.rest;
+    }
+    Ok(style)
 }

@@ -1,9 +1,11 @@
 // What the calls answer on examples.
-use crate::{AnsiCode, Error, IntoText, bytes_into_text, bytes_to_text, line_into_text};
+use crate::{
+    AnsiCode, Error, IntoText, bytes_into_text, bytes_to_text, line_into_text, style_after_line,
+};
 use std::alloc::{AllocError, Global};
 use std::fmt::Write;
 use std::test::Fail;
-use term_text::{Color, Line, Style, Text};
+use term_text::{Color, Line, Modifier, Style, Text};
 
 /// Adds the spans of the line, each with its colours and modifiers behind it where its style sets any.
 fn show_line(out: &mut String, line: &Line) -> Result<(), AllocError> {
@@ -145,5 +147,28 @@ fn codes_have_names_or_stand_for_themselves(rt: HostRuntime) -> Result<(), Fail>
     assert!(rt; AnsiCode::from_code(alloc, 38)? == AnsiCode::SetForegroundColor);
     assert!(rt; AnsiCode::from_code(alloc, 12)? == AnsiCode::Code(vec![in alloc; 12]?));
     assert!(rt; AnsiCode::from_code(alloc, 255)? == AnsiCode::Code(vec![in alloc; 255]?));
+    Ok(())
+}
+
+#[test]
+fn a_style_is_read_without_its_line(rt: HostRuntime) -> Result<(), Fail> {
+    let alloc = rt.alloc();
+    let red = Style::new().fg(Color::Red);
+    for line in [
+        b"".as_slice(),
+        b"a\x1b[1mb\x1b[Kc",
+        b"\x1b[m\xc3\xa9",
+        b"\x1b[38;5;9mx\x1b[",
+    ] {
+        let (_, after) = line_into_text(alloc, red, line)?;
+        assert_eq!(rt; style_after_line(red, line)?, after);
+    }
+    assert_eq!(rt;
+        style_after_line(red, b"a\x1b[1mb")?,
+        red.add_modifier(Modifier::BOLD)
+    );
+    assert!(rt; style_after_line(red, b"a\x1b[1m\xff") == Err(Error::Utf8Error));
+    // A dropped piece need not be UTF-8.
+    assert_eq!(rt; style_after_line(red, b"\x1b]\xff\x07a")?, red);
     Ok(())
 }

@@ -1,0 +1,7 @@
+pub mod Ended
+pub mod Feed
+pub mod Errors
+pub mod Answers
+pub mod Calls
+pub mod Plain
+pub mod Log
