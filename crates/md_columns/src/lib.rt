@@ -7,6 +7,3 @@ mod share;
 
 pub use bounds::Bounds;
 pub use share::fair;
-
-#[cfg(test)]
-mod tests;

@@ -17,6 +17,3 @@ pub use md_tree::{
     well_formed,
 };
 pub use reader::read;
-
-#[cfg(test)]
-mod tests;

@@ -5,6 +5,3 @@ pub mod laws;
 mod write;
 
 pub use write::write_inlines;
-
-#[cfg(test)]
-mod tests;

@@ -13,6 +13,3 @@ mod ticks;
 
 pub use cut::cut_leaves;
 pub use leaf::{Kind, Leaf, Mark, Target};
-
-#[cfg(test)]
-mod tests;

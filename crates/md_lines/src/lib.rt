@@ -6,6 +6,3 @@ mod line;
 
 pub use blanks::{is_blank, without_end_blanks};
 pub use line::{Line, line_of, lines_of};
-
-#[cfg(test)]
-mod tests;

@@ -11,6 +11,3 @@ mod table;
 
 pub use styles::Styles;
 pub use table::{Row, Table};
-
-#[cfg(test)]
-mod tests;

@@ -26,6 +26,3 @@ pub use list::{begins_leaf, is_loose, list_more, next_item};
 pub use quote::{first_alert, is_dashes, quoted, quotes, without_kind};
 pub use rule::is_rule;
 pub use table::{row_count, starts_table};
-
-#[cfg(test)]
-mod tests;

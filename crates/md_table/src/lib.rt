@@ -7,8 +7,6 @@ mod builder;
 mod custom;
 mod defaults;
 mod sheet;
-#[cfg(test)]
-mod tests;
 
 pub use alert::AlertKind;
 pub use builder::{RowDividers, TableBuilder};

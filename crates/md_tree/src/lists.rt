@@ -128,38 +128,3 @@ impl Alignments {
         Ok(())
     }
 }
-
-#[cfg(test)]
-mod tests {
-    use super::*;
-    use std::test::Fail;
-
-    #[test]
-    fn lists_keep_their_order(rt: HostRuntime) -> Result<(), Fail> {
-        let mut classes = Classes::new(rt.alloc());
-        classes.push(CowStr::borrowed("a"))?;
-        classes.push(CowStr::borrowed("b"))?;
-        let mut words = String::new(rt.alloc());
-        for class in classes.as_slice() {
-            words.push_str(class.as_str())?;
-        }
-        assert_eq!(rt; words.as_str(), "ab");
-        let mut attrs = Attrs::new(rt.alloc());
-        attrs.push((CowStr::borrowed("k"), Some(CowStr::borrowed("v"))))?;
-        attrs.push((CowStr::borrowed("l"), None))?;
-        let mut words = String::new(rt.alloc());
-        for (key, value) in attrs.as_slice() {
-            words.push_str(key.as_str())?;
-            if let Some(value) = value {
-                words.push_str(value.as_str())?;
-            }
-        }
-        assert_eq!(rt; words.as_str(), "kvl");
-        let mut alignments = Alignments::new(rt.alloc());
-        alignments.push(Alignment::Left)?;
-        alignments.push(Alignment::Right)?;
-        let wanted = [Alignment::Left, Alignment::Right];
-        assert_eq!(rt; alignments.as_slice(), wanted.as_slice());
-        Ok(())
-    }
-}

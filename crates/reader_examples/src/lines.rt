@@ -1,4 +1,5 @@
-use super::*;
+//! The lines of texts.
+use md_lines::{is_blank, line_of, lines_of, without_end_blanks};
 use std::test::Fail;
 
 #[test]

@@ -1,4 +1,5 @@
-use super::*;
+//! The events of texts, and which texts are built.
+use md_events::*;
 use std::alloc::{AllocError, Global};
 use std::process::Abort;
 use std::test::Fail;

@@ -1,4 +1,5 @@
-use super::*;
+//! The leaves of sources, with their places.
+use md_leaves::{Kind, cut_leaves};
 use std::alloc::{AllocError, Global};
 use std::test::Fail;
 

@@ -1,5 +1,9 @@
-use super::*;
+//! The tests of the block rules on lines.
 use md_lines::{Line, line_of, lines_of};
+use md_rules::{
+    Cells, alignments, heading_of, item_lines, marker_of, quoted, row_count, starts_table,
+    text_from,
+};
 use std::alloc::{AllocError, Global};
 use std::test::Fail;
 use term_text::Alignment;

@@ -1,4 +1,5 @@
-use super::*;
+//! The inlines of lines.
+use md_inline::write_inlines;
 use md_lines::{Line, lines_of};
 use md_tree::{Event, Tag, TagEnd};
 use std::alloc::{AllocError, Global};

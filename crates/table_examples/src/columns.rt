@@ -1,4 +1,5 @@
-use super::*;
+//! How columns share a width.
+use md_columns::{Bounds, fair};
 use std::alloc::{AllocError, Global};
 use std::test::Fail;
 

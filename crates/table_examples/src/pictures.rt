@@ -1,4 +1,5 @@
-use super::*;
+//! Tables with their pictures.
+use md_picture::{Row, Styles, Table};
 use std::alloc::{AllocError, Global};
 use std::test::Fail;
 use term_text::{Alignment, CowStr, Line, Span, Style};

@@ -1,5 +1,5 @@
 //! The defaults as a table, a sheet with two answers changed, and tables with their pictures.
-use crate::{AlertKind, CustomSheet, DefaultStyleSheet, RowDividers, StyleSheet, TableBuilder};
+use md_table::{AlertKind, CustomSheet, DefaultStyleSheet, RowDividers, StyleSheet, TableBuilder};
 use std::alloc::{AllocError, Global};
 use std::collections::HashMap;
 use std::test::Fail;
