@@ -1,9 +1,11 @@
 // A source and a sink in memory.
-ghost use Rattle.std.specs.Prelude.{◌≡◌, ℕ, ◌+◌, ◌-◌, ◌≤◌, List, [], min, length, Option, Some, IfOk, OnErr, is_err, vec_capacity, drop};
+ghost use Rattle.std.specs.Prelude.{◌≡◌, ℕ, ◌+◌, ◌-◌, ◌≤◌, List, [], min, length, Option, Some};
+ghost use Rattle.std.specs.Prelude.{IfOk, OnErr, is_err, vec_capacity, drop};
 ghost use Rattle.std.specs.Io.{ReadsAtMost, WritesAtMost};
 ghost use Rattle.std.specs.Io.KnownBytes.{ReadConsumes, WriteAppends};
 ghost use Rattle.ends.specs.Causes.{HasCause, TakesSome};
-ghost use Rattle.ends.specs.Memory.{SourceState, SinkState, read_fails, write_fails, after_read, after_failed_read, after_write, after_failed_write};
+ghost use Rattle.ends.specs.Memory.{SourceState, read_fails, after_read, after_failed_read};
+ghost use Rattle.ends.specs.Memory.{SinkState, write_fails, after_write, after_failed_write};
 
 use crate::traits::{Failed, Sink, Source};
 use std::alloc::{AllocError, Global};
@@ -23,7 +25,13 @@ pub struct MemorySource {
 impl Model for MemorySource {
     ghost Value = { SourceState };
 
-    ghost view = { λ s. record { left = drop s.at s.bytes.items; most = s.most; fails = s.fails.items; calls = s.calls; faults = s.faults } };
+    ghost view = { λ s. record {
+      left = drop s.at s.bytes.items;
+      most = s.most;
+      fails = s.fails.items;
+      calls = s.calls;
+      faults = s.faults;
+    } };
 
     ghost invariant = { λ s. (s.at ≤ length s.bytes.items) × (1 ≤ s.most) };
 }
@@ -86,7 +94,14 @@ pub struct MemorySink {
 impl Model for MemorySink {
     ghost Value = { SinkState };
 
-    ghost view = { λ s. record { written = s.bytes.items; room = s.room; most = s.most; fails = s.fails.items; calls = s.calls; faults = s.faults } };
+    ghost view = { λ s. record {
+      written = s.bytes.items;
+      room = s.room;
+      most = s.most;
+      fails = s.fails.items;
+      calls = s.calls;
+      faults = s.faults;
+    } };
 
     ghost invariant = { λ s. (length s.bytes.items + s.room ≤ vec_capacity s.bytes) × (1 ≤ s.most) };
 }
@@ -100,7 +115,8 @@ impl MemorySink {
         fails: Vec<u64>,
     ) -> Result<MemorySink, AllocError>
         requires { 1 ≤ most }
-        ensures { IfOk result (λ s. s ≡ record { written = []; room = room; most = most; fails = fails.items; calls = 0; faults = 0 }) }
+        ensures { IfOk result (λ s.
+            s ≡ record { written = []; room = room; most = most; fails = fails.items; calls = 0; faults = 0 }) }
     {
         let bytes = Vec::with_capacity(alloc, room)?;
         Ok(MemorySink {

@@ -18,7 +18,7 @@ pub trait Source {
 
     /// Takes the next bytes into the front of the slice and answers how many these are, at most the slice's length.
     /// 0 for a slice that is not empty is the end of the input. `Failed` comes only where the count of faults rose
-    /// in this call, or stands at its last value, and takes nothing.
+    /// in this call, or stands at its last value, and takes nothing; after `Ok` the count is as it was.
     fn read(&mut self, into: &mut [u8]) -> Result<usize, Failed>
         ensures bound { ReadsAtMost result into.new }
         ensures bytes { ReadConsumes (left self.old) (left self.new) result into.new }
@@ -35,7 +35,7 @@ pub trait Sink {
 
     /// Appends the first bytes of the slice and answers how many these are, at least one of a slice that is not
     /// empty. `Failed` comes only where the count of faults rose in this call, or stands at its last value, and
-    /// appends nothing.
+    /// appends nothing; after `Ok` the count is as it was.
     fn write(&mut self, from: &[u8]) -> Result<usize, Failed>
         ensures bound { WritesAtMost result from.now }
         ensures some { TakesSome result from.now }

@@ -1,4 +1,3 @@
-pub mod Transfers
 pub mod Showing
-pub mod Endings
 pub mod Headline
+pub mod Causes

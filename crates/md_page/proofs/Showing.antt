@@ -6,12 +6,12 @@ use Rattle.term_core.specs.Text.{LineView}
 use Rattle.term_core.specs.Lists.{joined}
 use Rattle.term_core.specs.Cells.{view}
 use Rattle.term_core.specs.declared.rect.Rect.{Rect}
-use Rattle.term_core.specs.Rect.{has_place, place_of, is_empty, intersection, common_length}
+use Rattle.term_core.specs.Rect.{has_place, place_of, is_empty, intersection}
 use Rattle.term_core.specs.Buffers.{BufferView, cell_at}
 use Rattle.term_core.specs.BufferRows.{buffer_rows}
 use Rattle.term_widgets.specs.Page.{PageView, page_rows, rows_of, any_wider}
 use Rattle.term_widgets.proofs.LineLemmas.{AllFit-none, rows_of-none}
-use Rattle.term_widgets.proofs.PageLemmas.{buffer_rows-drawn}
+use Rattle.term_widgets.proofs.PageLemmas.{buffer_rows-drawn, same_length}
 use Rattle.md_events.specs.Blocks.{tree}
 use Rattle.md_text.specs.Layout.{document_lines}
 use Rattle.md_text.specs.Look.{look_of, default_look, knows_ansi, as_it_is}
@@ -25,15 +25,12 @@ pub job_look-options : {S : Type 0} (options plain : OptionsView S) (styles : S)
 job_look-options {S} options plain styles job e f =
     ap (λ (x : OptionsView S). look_of x (λ s. default_look.sheet) knows_ansi as_it_is) (f ∙ ap (λ (x : OptionsView S). record x { table_width = Some job.width }) e)
 
-common_length-same : (a m : ℕ) → common_length a m a m ≡ m
-common_length-same a m = omega arith
-
 -- an area cut to itself is as wide and as high as it is
 pub width-same : (r : Rect) → (intersection r r).width ≡ r.width
-width-same r = common_length-same r.x r.width
+width-same r = same_length r.x r.width
 
 pub height-same : (r : Rect) → (intersection r r).height ≡ r.height
-height-same r = common_length-same r.y r.height
+height-same r = same_length r.y r.height
 
 -- an empty area has no place
 has_place-empty : (r : Rect) (x y : ℕ) → is_empty r ≡ true → has_place r x y ≡ false

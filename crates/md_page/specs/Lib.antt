@@ -1,6 +1,2 @@
-pub mod Status
-pub mod Reading
-pub mod Writing
-pub mod Ran
 pub mod ViewError
 pub mod Shown

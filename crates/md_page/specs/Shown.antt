@@ -1,10 +1,13 @@
 -- The page of a text, and what a run shows of it.
 use Rattle.std.specs.Prelude.{◌≡◌, ℕ, ◌==◌, ◌||◌, Bool, true, false, ⊤, Some, List, [], length, IsUtf8, if◌then◌else◌}
+use Rattle.term_core.specs.BufferRows.{area_rows}
+use Rattle.term_core.specs.Buffers.{BufferView, cell_at, cell_put}
 use Rattle.term_core.specs.Graph.{Grapheme}
+use Rattle.term_core.specs.Lists.{joined}
 use Rattle.term_core.specs.Cells.{view}
 use Rattle.term_core.specs.declared.rect.Rect.{Rect}
 use Rattle.term_core.specs.Rect.{is_empty}
-use Rattle.term_widgets.specs.Page.{rows_of, any_wider}
+use Rattle.term_widgets.specs.Page.{PageView, rows_of, any_wider}
 use Rattle.md_events.specs.Blocks.{tree}
 use Rattle.md_events.specs.Built.{built}
 use Rattle.md_text.specs.Look.{Look, ansi_look, default_look}
@@ -13,8 +16,10 @@ use Rattle.md_words.specs.declared.job.Job.{Job}
 use Rattle.view_print.specs.Print.{print}
 use Rattle.md_page.specs.declared.error.ViewError.{ViewError}
 use Rattle.md_page.specs.declared.error.ViewError.TheVariants as refusal
-use Rattle.md_page.specs.declared.status.Status.{Status}
-use Rattle.md_page.specs.declared.status.Status.TheVariants.{Done, NotUtf8, TooNarrow, Memory, Unbuilt}
+use Rattle.md_page.specs.declared.view.NoView.{NoView}
+use Rattle.md_page.specs.declared.view.NoView.TheVariants as no
+use Rattle.programs.specs.declared.status.Status.{Status}
+use Rattle.programs.specs.declared.status.Status.TheVariants.{Done, NotUtf8, TooNarrow, Memory, Unbuilt}
 
 -- the rows of a text's page: the wrap, at its width, of the lines that the text's tree lays out
 abbrev pub rows : Look → List ℕ → ℕ → List (List Grapheme)
@@ -29,6 +34,14 @@ pub record IsTooNarrow (look : Look) (text : List ℕ) (cut : Rect) : Type 0 whe
   pub utf8 : IsUtf8 text
   pub some : is_empty cut ≡ false
   pub wide : too_wide look text cut.width ≡ true
+
+-- the page of a text is drawn on an area: the page's lines are those that the text's tree lays out, none of them too
+-- wide, and the area's cells are its rows from the scroll on; no other cell changes
+pub record IsDrawn (look : Look) (text : List ℕ) (cut : Rect) (scroll : ℕ) (drawn : PageView) (old new : BufferView) : Type 0 where
+  pub page : drawn ≡ record { width = cut.width; lines = document_lines look (tree text) }
+  pub fits : too_wide look text cut.width ≡ false
+  pub cells : (x y : ℕ) → cell_at new x y ≡ cell_put cut (joined (view (rows look text cut.width) cut.width cut.height scroll)) old x y
+  pub rows : area_rows new cut ≡ view (rows look text cut.width) cut.width cut.height scroll
 
 -- why a view of a text is refused
 abbrev pub RefusedBy : Look → ViewError → List ℕ → Rect → Type 0
@@ -79,10 +92,13 @@ Cause job TooNarrow text = IsNarrow job text
 Cause job Unbuilt text = IsUnbuilt text
 Cause job _ text = ⊤
 
--- why there is no output
-abbrev pub HasNoOutput : Job → Status → List ℕ → Type 0
-HasNoOutput job NotUtf8 text = Cause job NotUtf8 text
-HasNoOutput job TooNarrow text = Cause job TooNarrow text
-HasNoOutput job Unbuilt text = Cause job Unbuilt text
-HasNoOutput job Memory text = ⊤
-HasNoOutput job _ text = ⊥
+-- how a run ends that has no view to print
+abbrev pub status_of : NoView → Status
+status_of no.Memory = Memory
+status_of no.NotUtf8 = NotUtf8
+status_of no.Unbuilt = Unbuilt
+status_of no.TooNarrow = TooNarrow
+
+-- why there is no view
+abbrev pub HasNoView : Job → NoView → List ℕ → Type 0
+HasNoView job why text = Cause job (status_of why) text

@@ -1,22 +1,23 @@
 // The program, over any source and any sink.
-ghost use Rattle.std.specs.Prelude.{◌≡◌, ◌⊎◌, ℕ, ◌+◌, ◌≤◌, List, length, Some, None, map, string_bytes, true, IfSome, IsSomeAnd, IsUtf8};
+ghost use Rattle.std.specs.Prelude.{◌≡◌, ◌⊎◌, ℕ, ◌+◌, ◌≤◌, List, length, Some, None, map, string_bytes, true};
+ghost use Rattle.std.specs.Prelude.{IfSome, IsSomeAnd, IsUtf8, ◌<◌, ◌^◌};
 ghost use Rattle.std.specs.Io.KnownBytes.{Appends, IsAtEnd};
-ghost use Rattle.ends.specs.Causes.{Rose};
+ghost use Rattle.ends.specs.Causes.{Rose, NoFault};
 ghost use Rattle.md_words.specs.declared.job.Job.{Job};
 ghost use Rattle.md_words.specs.Words.{job_of};
-ghost use Rattle.md_page.specs.Reading.{change_of, limit};
-ghost use Rattle.md_page.specs.Ran.{Ran, Shows};
+ghost use Rattle.programs.specs.Reading.{change_of, limit};
+ghost use Rattle.programs.specs.Ran.{Ran, Shows};
 ghost use Rattle.md_events.specs.Blocks.{tree};
-ghost use Rattle.md_text.specs.Layout.{document_layout};
+ghost use Rattle.md_text.specs.Layout.{document_layout, document_lines};
 ghost use Rattle.md_text.specs.Pieces.{puts, document_pieces};
-ghost use Rattle.md_page.specs.Writing.{WroteSome};
+ghost use Rattle.md_text.specs.Framed.{HoldsPieces};
+ghost use Rattle.programs.specs.Writing.{WroteSome};
 ghost use Rattle.md_page.specs.Shown.{Cause, IsShowable, IsNarrow, IsUnbuilt, job_look, shown};
 
 use crate::output::output;
-use crate::status::Status;
-use crate::transfer::{read_all, write_all};
 use ends::{Sink, Source};
 use md_words::{Job, job_of_words};
+use programs::{Status, read_all, write_all};
 use std::alloc::Global;
 
 /// Shows a source as a job says.
@@ -34,7 +35,7 @@ fn run_job<R: Source, W: Sink>(alloc: Global, job: Job, source: &mut R, sink: &m
     };
     let output = match output(alloc, &bytes, job) {
         Ok(output) => output,
-        Err(status) => return status,
+        Err(why) => return why.status(),
     };
     match write_all(&output, sink) {
         Ok(()) => Status::Done,
@@ -92,6 +93,12 @@ pub fn run<R: Source, W: Sink>(
         × Appends (W.written sink.old) (W.written sink.new) (shown job bytes)) }
     ensures pieces { (job : Job) (text : List ℕ) → puts (document_layout (job_look job) (tree text)).marks
         ≡ document_pieces (job_look job) (tree text) }
+    ensures lines { (job : Job) (text : List ℕ) → length text < 2 ^ 64
+        → HoldsPieces (document_lines (job_look job) (tree text)) (document_pieces (job_look job) (tree text)) }
+
+    // After `Done` no call of either end failed, so no fault was tried over, or a count stands at its last value.
+    ensures no_fault { result ≡ Status.Done
+        → NoFault (R.faults source.old) (R.faults source.new) × NoFault (W.faults sink.old) (W.faults sink.new) }
 
     // When each other status comes, and what it leaves.
     ensures usage { result ≡ Status.Usage → job_of (map string_bytes words.now) ≡ None }

@@ -167,3 +167,25 @@ fn a_view_is_drawn_or_refused_and_changes_nothing_else(rt: HostRuntime) -> Resul
     );
     Ok(())
 }
+
+#[test]
+fn views_of_the_usual_and_of_the_greatest_size(rt: HostRuntime) -> Result<(), Fail> {
+    let alloc = rt.alloc();
+    for (width, height) in [(80, 24), (1000, 1000)] {
+        let area = Rect::new(0, 0, width, height);
+        let mut buffer = Buffer::empty(alloc, area)?;
+        let drawn = rows_drawn(alloc, b"a\n\n# b\n".as_slice(), area, &mut buffer);
+        assert_eq!(rt; drawn, Ok(3));
+        for (x, y, wanted) in [
+            (0, 0, "a"),
+            (0, 1, " "),
+            (0, 2, "#"),
+            (2, 2, "b"),
+            (79, 23, " "),
+        ] {
+            let symbol = buffer.cell(x, y).map_or("", |cell| cell.symbol());
+            assert_eq!(rt; symbol, wanted, "at {x} {y}");
+        }
+    }
+    Ok(())
+}

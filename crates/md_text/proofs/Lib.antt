@@ -14,3 +14,4 @@ pub mod Runs
 pub mod Pieces
 pub mod Starts
 pub mod Follows
+pub mod Frames

@@ -15,6 +15,7 @@ pub mod Code
 pub mod Tables
 pub mod Layout
 pub mod Pieces
+pub mod Framed
 pub mod State
 pub mod Options
 pub mod RenderError

@@ -8,6 +8,9 @@ use std::marker::Model;
 
 /// How a tree is laid out: its style sheet, the columns that tables are to fit in, if a width is set, and whether border
 /// lines stand between their rows.
+///
+/// Without a width a table takes what its widest cells need; on a narrower page its lines are then wrapped as any line is,
+/// which breaks the picture. So set the page's width by `table_width` where tables are to be read.
 #[derive(Drop)]
 pub struct Options<S: StyleSheet> {
     styles: S,

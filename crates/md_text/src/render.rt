@@ -15,7 +15,8 @@ use md_table::StyleSheet;
 use std::alloc::{AllocError, Global};
 use term_text::Text;
 
-/// The lines that the tree of a Markdown text lays out, with the defaults and no highlighter.
+/// The lines that the tree of a Markdown text lays out, with the defaults and no highlighter. They are not wrapped: a page
+/// (`Page::new`, `render_view`) does that, and a table takes the width that it needs (`Options::table_width` bounds it).
 ///
 /// The only refusal is `Memory`.
 pub fn from_str<'a>(alloc: Global, input: &'a str) -> Result<Text<'a>, RenderError>

@@ -10,40 +10,79 @@ use std::alloc::{AllocError, Global};
 use std::test::Fail;
 use term_text::{CowStr, Line, Style, Text};
 
-// The name of a style that the tests use, and none for the plain one.
-fn style_name(style: Style) -> &'static str {
-    let sheet = DefaultStyleSheet;
+// The name that stands beside a style.
+fn name_among(style: Style, names: &[(Style, &'static str)]) -> Option<&'static str> {
+    for (named, name) in names {
+        if style == *named {
+            return Some(*name);
+        }
+    }
+    None
+}
+
+// The names stand in small tables: what a check of one table costs grows by the square of its calls.
+fn name_of_modifiers(style: Style) -> Option<&'static str> {
     let plain = Style::new();
     let names = [
         (plain, ""),
-        (sheet.heading(1), "<h1>"),
-        (sheet.heading(2), "<h2>"),
-        (sheet.heading_meta(), "<dim>"),
-        (sheet.code(), "<code>"),
-        (sheet.link(), "<link>"),
         (plain.italic(), "<italic>"),
         (plain.bold(), "<bold>"),
         (plain.crossed_out(), "<struck>"),
         (plain.dim().italic(), "<script>"),
         (plain.italic().bold(), "<bold italic>"),
+    ];
+    name_among(style, names.as_slice())
+}
+
+fn name_of_colours(style: Style) -> Option<&'static str> {
+    let names = [
+        (Style::reset(), "<reset>"),
+        (Style::new().red(), "<red>"),
+        (Style::reset().red(), "<reset red>"),
+    ];
+    name_among(style, names.as_slice())
+}
+
+fn name_in_text(style: Style) -> Option<&'static str> {
+    let sheet = DefaultStyleSheet;
+    let names = [
+        (sheet.heading(1), "<h1>"),
+        (sheet.heading(2), "<h2>"),
+        (sheet.heading_meta(), "<dim>"),
+        (sheet.code(), "<code>"),
+        (sheet.link(), "<link>"),
         (sheet.link().bold(), "<bold link>"),
+    ];
+    name_among(style, names.as_slice())
+}
+
+fn name_in_containers(style: Style) -> Option<&'static str> {
+    let sheet = DefaultStyleSheet;
+    let note = sheet.alert(AlertKind::Note);
+    let names = [
         (sheet.blockquote(), "<quote>"),
-        (sheet.alert(AlertKind::Note), "<note>"),
-        (sheet.alert(AlertKind::Note).bold(), "<bold note>"),
+        (note, "<note>"),
+        (note.bold(), "<bold note>"),
         (sheet.alert(AlertKind::Tip).bold(), "<bold quote>"),
         (sheet.heading(1).patch(sheet.blockquote()), "<h1 quote>"),
         (sheet.list_marker(), "<marker>"),
         (sheet.table_border(), "<border>"),
-        (Style::reset(), "<reset>"),
-        (plain.red(), "<red>"),
-        (Style::reset().red(), "<reset red>"),
     ];
-    for (named, name) in names {
-        if style == named {
-            return name;
-        }
+    name_among(style, names.as_slice())
+}
+
+// The name of a style that the tests use, and none for the plain one.
+fn style_name(style: Style) -> &'static str {
+    if let Some(name) = name_of_modifiers(style) {
+        return name;
     }
-    "<?>"
+    if let Some(name) = name_in_text(style) {
+        return name;
+    }
+    if let Some(name) = name_in_containers(style) {
+        return name;
+    }
+    name_of_colours(style).unwrap_or("<?>")
 }
 
 fn draw_line(drawn: &mut String, line: &Line) -> Result<(), AllocError> {

@@ -1,8 +1,12 @@
 // The three words as a job.
 ghost use Rattle.std.specs.Prelude.{◌≡◌, map, string_bytes};
-ghost use Rattle.md_words.specs.Words.{job_of, number_of, size_limit};
+ghost use Rattle.programs.specs.Number.{number_of};
+ghost use Rattle.md_words.specs.Words.{job_of, size_limit};
 
-use crate::number::{SIZE_LIMIT, number};
+use programs::number;
+
+/// The greatest width and height.
+const SIZE_LIMIT: u64 = 1000;
 
 /// What a run is asked to show: a page of so many columns and rows, from a row of the page on.
 #[derive(Clone, Copy, Debug, PartialEq, Eq)]

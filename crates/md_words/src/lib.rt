@@ -2,7 +2,6 @@
 #![tactic(auto)]
 
 mod job;
-mod number;
 
 pub use job::{Job, job_of_words};
 
