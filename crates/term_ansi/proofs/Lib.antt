@@ -1,0 +1,12 @@
+pub mod ShownLemmas
+pub mod LookLemmas
+pub mod PutLemmas
+pub mod SgrLemmas
+pub mod PrintLemmas
+pub mod ReadLemmas
+pub mod SeparateLemmas
+pub mod BufferLemmas
+pub mod SpreadLemmas
+pub mod PartLemmas
+pub mod CleanLemmas
+pub mod ViewLemmas

@@ -1,0 +1,11 @@
+pub mod Errors
+pub mod Looks
+pub mod Sgr
+pub mod Printed
+pub mod Runs
+pub mod Separable
+pub mod Back
+pub mod ShownIter
+pub mod Printable
+pub mod Texts
+pub mod Clean
