@@ -87,19 +87,19 @@ fn a_fault_leaves_what_was_written_before_it(rt: HostRuntime) -> Result<(), Fail
     Ok(())
 }
 
-/// The front of the text that README shows, with a heading, emphasis, an alert, lists and a table.
-const LANTERN: &str =
-    "# The lantern {#lantern}\n\nNobody had lit it for a *year*. Then the **storm** came.\n\n> [!TIP]\n> Oil stands in the shed:\n>\n> - two cans of the *old* sort\n> - [x] one can of the `new`\n\n| Oil | A can burns | Smell |\n|-----|------------:|-------|\n| whale | nine hours | strong, of the sea |\n| colza | seven hours | hardly any |\n\n## How it is lit\n\nTurn the ring left, as [the manual](docs/ring.md) has it.\n";
+/// The text that README shows, of every form that is built.
+const EXAMPLE: &str =
+    "# The lantern {#lantern}\n\n*Nobody* had lit it for a year. Then the storm came,\nthe lamps of the harbour went out ~~all at once~~\none by one, and the **pilot** remembered it.\n\n> [!TIP]\n> Oil stands in the shed:\n>\n> - two cans of the old sort\n>   1. behind the door\n>   2. under the bench\n> - [x] one can of the new\n\n| Oil   | A can burns | Smell              |\n|:------|------------:|--------------------|\n| whale | nine hours  | strong, of the sea |\n| colza | seven hours | *hardly* any       |\n\n## How it is lit\n\nTurn the ring `left`, as the [manual](docs/ring.md) has it.\n\n```sh\nlantern --left 2\n```\n\n1. Wait for the click.\n2. Step back\\!\n\n* * *\n\n漢字 and combined letters, é and e with its accent.\n";
 
 #[test]
 fn a_printed_page_is_read_back_to_the_same_cells(rt: HostRuntime) -> Result<(), Fail> {
     let alloc = rt.alloc();
     let job = Job {
         width: 40,
-        height: 30,
+        height: 40,
         scroll: 0,
     };
-    let Ok((view, _rows)) = drawn_view(alloc, LANTERN.as_bytes(), job) else {
+    let Ok((view, _rows)) = drawn_view(alloc, EXAMPLE.as_bytes(), job) else {
         return Err(Fail::from("no view"));
     };
     assert!(rt; separable(alloc, &view)?);
@@ -109,18 +109,18 @@ fn a_printed_page_is_read_back_to_the_same_cells(rt: HostRuntime) -> Result<(), 
     let Ok(lines) = bytes_to_text(alloc, text.as_bytes()) else {
         return Err(Fail::from("not read"));
     };
-    assert_eq!(rt; lines.lines().len(), 30);
+    assert_eq!(rt; lines.lines().len(), 40);
     let Ok(page) = Page::new(alloc, lines, 40) else {
         return Err(Fail::from("no page"));
     };
-    let area = Rect::new(0, 0, 40, 30);
+    let area = Rect::new(0, 0, 40, 40);
     let mut again = Buffer::empty(alloc, area)?;
     let mut probes = Steps::new(NoSteps);
     let mut cuts = Steps::new(NoSteps);
     if again.area().width() == page.width() {
         page.draw(alloc, area, 0, &mut again, &mut probes, &mut cuts)?;
     }
-    for y in 0u16..30 {
+    for y in 0u16..40 {
         for x in 0u16..40 {
             let (Some(one), Some(other)) = (view.cell(x, y), again.cell(x, y)) else {
                 return Err(Fail::from("no cell"));
