@@ -79,11 +79,11 @@ fn run_words<R: Source, W: Sink>(
 /// Prints the last lines of the ANSI text that a source holds as plain text, each with LF. The one word, BOUND, says how
 /// many lines: 1 to 20 digits, of at most 100,000.
 ///
-/// It reads the source piece by piece to its end, at most 16,777,216 bytes, and holds the kept lines and one piece. The
-/// statuses: `Usage`, before any read; then `NotUtf8`, `ReadFault` and `TooLong`, whichever a call of the source brought
-/// first, and `TooLong` where one call brings it and `NotUtf8`; `WriteFault`. `Memory` may stand in place of any of them
-/// before the first write. `NotUtf8` comes exactly where a line that ended in the bytes taken, or the last line at the
-/// end of the source, has a stretch that is not UTF-8.
+/// It reads the source piece by piece to its end, at most 16,777,216 bytes, and holds the kept lines, the unfinished one
+/// and one piece. The statuses: `Usage`, before any read; then `NotUtf8`, `ReadFault` and `TooLong`, whichever a call of
+/// the source brought first, and `TooLong` where one call brings it and `NotUtf8`; `WriteFault`. `Memory` may stand in
+/// place of any of them before the first write. `NotUtf8` comes exactly where a line that ended in the bytes taken, or
+/// the last line at the end of the source, has a stretch that is not UTF-8.
 pub fn run_plain<R: Source, W: Sink>(
     alloc: Global,
     words: &[String],

@@ -72,9 +72,9 @@ fn feed_all<R: Source>(source: &mut R, part: &mut [u8], feed: &mut Feed) -> Resu
 
 /// The feed of all that a source has left, if that is at most 16,777,216 bytes, and finished.
 ///
-/// It holds the kept lines and one piece. A refusal comes with the call of the source that brings it: `NotUtf8` where a
-/// line that ended has a stretch that is not UTF-8, `ReadFault` by a fault of the source, and `TooLong` after one byte
-/// too many, also where the same call brings both that byte and such a stretch.
+/// It holds the kept lines, the unfinished one and one piece. A refusal comes with the call of the source that brings it:
+/// `NotUtf8` where a line that ended has a stretch that is not UTF-8, `ReadFault` by a fault of the source, and `TooLong`
+/// after one byte too many, also where the same call brings both that byte and such a stretch.
 pub(crate) fn feed_source<R: Source>(
     alloc: Global,
     bound: usize,
