@@ -9,7 +9,7 @@ use Rattle.md_columns.specs.declared.bounds.Choice.TheVariants.{Least, Most, At}
 use Rattle.md_columns.specs.Fair.{Ordered, Within, Taken, width_at, total, level_up_to, level, widest, grows, grown, fair}
 use Rattle.md_columns.proofs.Levels.{total-cons, total-first, total-widest, total-mono, fits-yes, fits-no, less-yes, less-no}
 
-sum-cons : (w : ℕ) (ws : List ℕ) → sum (w ∷ ws) ≡ w + sum ws
+pub sum-cons : (w : ℕ) (ws : List ℕ) → sum (w ∷ ws) ≡ w + sum ws
 sum-cons w ws = sum_by-cons (λ (x : ℕ). x) w ws
 
 -- ---- the level fits, and the next does not
@@ -37,7 +37,7 @@ level_up_to-next (suc n) budget columns h = go (nat_le (total (At (suc n)) colum
 pub level-fits : (budget : ℕ) (columns : List Bounds) → total Least columns ≤ budget → total (At (level budget columns)) columns ≤ budget
 level-fits budget columns h = level_up_to-fits (widest columns) budget columns (omega (arith, total-first columns, h))
 
-level-next : (budget : ℕ) (columns : List Bounds) → budget < total Most columns → budget < total (At (level budget columns + 1)) columns
+pub level-next : (budget : ℕ) (columns : List Bounds) → budget < total Most columns → budget < total (At (level budget columns + 1)) columns
 level-next budget columns h =
     level_up_to-next (widest columns) budget columns (omega (arith, h, total-widest columns, total-mono (widest columns) (widest columns + 1) columns (omega arith)))
 
@@ -49,7 +49,7 @@ pub record Near (at : ℕ) (column : Bounds) (width : ℕ) : Type 0 where
   pub high : width ≤ max (width_at at column) (at + 1)
   pub most : width ≤ max column.least column.most
 
-grows-parts : (at : ℕ) (column : Bounds) → grows at column ≡ true → (column.least ≤ at) × (at + 1 ≤ column.most)
+pub grows-parts : (at : ℕ) (column : Bounds) → grows at column ≡ true → (column.least ≤ at) × (at + 1 ≤ column.most)
 grows-parts at column h =
     let parts = and_parts (nat_le column.least at) (nat_lt at column.most) h in
     (fits-yes column.least at parts.0, omega (arith, less-yes at column.most parts.1))
@@ -61,7 +61,7 @@ pub record First (at spare : ℕ) (column : Bounds) (columns : List Bounds) : Ty
   pub is : grown at spare (column ∷ columns) ≡ width ∷ grown at others columns
   pub near : Near at column width
 
-grown-first : (at spare : ℕ) (column : Bounds) (columns : List Bounds) → First at spare column columns
+pub grown-first : (at spare : ℕ) (column : Bounds) (columns : List Bounds) → First at spare column columns
 unfolding grown
 grown-first at zero column columns =
     record { width = width_at at column; others = 0; is = refl; near = record { low = omega arith; high = omega arith; most = omega arith } }
@@ -82,7 +82,7 @@ grown-first at (suc spare) column columns = go (grows at column) refl
 -- ---- the whole budget
 
 -- one for a column that is wider at the next level
-abbrev growing_one : ℕ → Bounds → ℕ
+abbrev pub growing_one : ℕ → Bounds → ℕ
 growing_one at column = cond (grows at column) 1 0
 
 width_at-next : (at : ℕ) (column : Bounds) → width_at (at + 1) column ≡ width_at at column + growing_one at column
@@ -97,12 +97,12 @@ width_at-next at column = go (grows at column) refl
     go true e = let parts = grows-parts at column e in omega (arith, parts.0, parts.1)
     go false e = no (nat_le column.least at) (nat_lt at column.most) refl refl e
 
-total-growing : (at : ℕ) (columns : List Bounds) → total (At (at + 1)) columns ≡ total (At at) columns + sum_by (λ (column : Bounds). growing_one at column) columns
+pub total-growing : (at : ℕ) (columns : List Bounds) → total (At (at + 1)) columns ≡ total (At at) columns + sum_by (λ (column : Bounds). growing_one at column) columns
 total-growing at [] = refl
 total-growing at (column ∷ columns) =
     omega (arith, total-cons (At (at + 1)) column columns, total-cons (At at) column columns, sum_by-cons (λ (c : Bounds). growing_one at c) column columns, width_at-next at column, total-growing at columns)
 
-sum-grown : (at spare : ℕ) (columns : List Bounds) → sum (grown at spare columns) ≡ total (At at) columns + min spare (sum_by (λ (column : Bounds). growing_one at column) columns)
+pub sum-grown : (at spare : ℕ) (columns : List Bounds) → sum (grown at spare columns) ≡ total (At at) columns + min spare (sum_by (λ (column : Bounds). growing_one at column) columns)
 unfolding grown
 sum-grown at spare [] = omega arith
 sum-grown at zero (column ∷ columns) =
@@ -120,22 +120,34 @@ sum-grown at (suc spare) (column ∷ columns) = go (grows at column) refl (sum-g
         let one : growing_one at column ≡ 0 = rw e refl in
         omega (arith, sum-cons (width_at at column) (grown at (suc spare) columns), total-cons (At at) column columns, sum_by-cons (λ (c : Bounds). growing_one at c) column columns, one, same)
 
-sum-least : (columns : List Bounds) → sum (map (λ (column : Bounds). column.least) columns) ≡ total Least columns
+pub sum-least : (columns : List Bounds) → sum (map (λ (column : Bounds). column.least) columns) ≡ total Least columns
 sum-least [] = refl
 sum-least (column ∷ columns) =
     omega (arith, sum-cons column.least (map (λ (c : Bounds). c.least) columns), total-cons Least column columns, sum-least columns)
+
+pub sum-most : (columns : List Bounds) → sum (map (λ (column : Bounds). column.most) columns) ≡ total Most columns
+sum-most [] = refl
+sum-most (column ∷ columns) =
+    omega (arith, sum-cons column.most (map (λ (c : Bounds). c.most) columns), total-cons Most column columns, sum-most columns)
 
 -- the widths where not all that is needed fits
 abbrev shared : ℕ → List Bounds → List ℕ
 shared budget columns =
     cond (nat_le budget (total Least columns)) (map (λ (column : Bounds). column.least) columns) (grown (level budget columns) (budget - total (At (level budget columns)) columns) columns)
 
-fair-shared : (budget : ℕ) (columns : List Bounds) → budget < total Most columns → fair budget columns ≡ shared budget columns
+pub fair-shared : (budget : ℕ) (columns : List Bounds) → budget < total Most columns → fair budget columns ≡ shared budget columns
 fair-shared budget columns h = go (nat_le (total Most columns) budget) refl
   where
     go : (v : Bool) → nat_le (total Most columns) budget ≡ v → cond v (map (λ (column : Bounds). column.most) columns) (shared budget columns) ≡ shared budget columns
     go true e = absurd (omega (arith, h, fits-yes (total Most columns) budget e))
     go false e = refl
+
+pub fair-all : (budget : ℕ) (columns : List Bounds) → total Most columns ≤ budget → fair budget columns ≡ map (λ (column : Bounds). column.most) columns
+fair-all budget columns h = go (nat_le (total Most columns) budget) refl
+  where
+    go : (v : Bool) → nat_le (total Most columns) budget ≡ v → cond v (map (λ (column : Bounds). column.most) columns) (shared budget columns) ≡ map (λ (column : Bounds). column.most) columns
+    go true e = refl
+    go false e = absurd (omega (arith, h, fits-no (total Most columns) budget e))
 
 pub whole_budget : (budget : ℕ) (columns : List Bounds) → total Least columns ≤ budget → budget < total Most columns → sum (fair budget columns) ≡ budget
 whole_budget budget columns fits more = ap sum (fair-shared budget columns more) ∙ go (nat_le budget (total Least columns)) refl
@@ -144,6 +156,16 @@ whole_budget budget columns fits more = ap sum (fair-shared budget columns more)
     go true e = omega (arith, sum-least columns, fits, fits-yes budget (total Least columns) e)
     go false e =
         omega (arith, sum-grown (level budget columns) (budget - total (At (level budget columns)) columns) columns, total-growing (level budget columns) columns, level-fits budget columns fits, level-next budget columns more)
+
+-- the widths take no more than a budget that suffices for the least
+pub fair-fits : (budget : ℕ) (columns : List Bounds) → total Least columns ≤ budget → sum (fair budget columns) ≤ budget
+fair-fits budget columns fits = go (nat_le (total Most columns) budget) refl
+  where
+    go : (v : Bool) → nat_le (total Most columns) budget ≡ v → sum (fair budget columns) ≤ budget
+    go true e =
+        let most = fits-yes (total Most columns) budget e in
+        omega (arith, most, ap sum (fair-all budget columns most), sum-most columns)
+    go false e = omega (arith, whole_budget budget columns fits (fits-no (total Most columns) budget e))
 
 -- ---- any other division
 
