@@ -9,3 +9,4 @@ pub mod Glyphs
 pub mod Lines
 pub mod Keeping
 pub mod Blanks
+pub mod LeastLemmas

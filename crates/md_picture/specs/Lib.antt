@@ -3,3 +3,4 @@ pub mod Picture
 pub mod Fits
 pub mod Widths
 pub mod Kept
+pub mod Least

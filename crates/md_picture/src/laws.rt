@@ -1,5 +1,5 @@
 //! Laws of pictures.
-ghost use Rattle.std.specs.Prelude.{◌≡◌, ℕ, Bool, Option, ◌∷◌};
+ghost use Rattle.std.specs.Prelude.{◌≡◌, ◌≤◌, ℕ, Bool, Option, Some, ◌∷◌};
 ghost use Rattle.term_text.specs.Graph.{graphs};
 ghost use Rattle.term_text.specs.Style.{no_style};
 ghost use Rattle.term_text.specs.Text.{LineView};
@@ -8,6 +8,7 @@ ghost use Rattle.term_text.specs.declared.style.Style.{Style};
 ghost use Rattle.md_picture.specs.declared.styles.Styles.{Styles};
 ghost use Rattle.md_picture.specs.Fits.{RowsFit};
 ghost use Rattle.md_picture.specs.Kept.{parts_graphs, restyled};
+ghost use Rattle.md_picture.specs.Least.{NoLineWider, least_width};
 ghost use Rattle.md_picture.specs.Picture.{TableView, picture, table_columns};
 ghost use Rattle.md_picture.specs.Widths.{AllAsWide, picture_width};
 
@@ -27,4 +28,10 @@ pub fn cells_fit_their_columns()
 pub fn parts_are_the_graphemes_without_blanks()
     ensures { (style : Style) (width : ℕ) (cell : LineView) → cell.style ≡ no_style → NoneWider width (graphs cell)
         → Thinned (restyled style (graphs cell)) (parts_graphs style width cell) }
+{}
+
+/// Where a width is set that suffices for the least widths of the columns, no line of the picture is wider.
+pub fn a_picture_fits_where_the_least_widths_do()
+    ensures { (styles : Styles) (width : ℕ) (dividers : Bool) (table : TableView) → least_width table ≤ width
+        → NoLineWider width (picture styles (Some width) dividers table) }
 {}
