@@ -10,3 +10,6 @@ pub mod Lines
 pub mod Keeping
 pub mod Blanks
 pub mod LeastLemmas
+pub mod Greatest
+pub mod Places
+pub mod Showing

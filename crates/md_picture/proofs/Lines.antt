@@ -24,7 +24,7 @@ use Rattle.md_picture.proofs.Spans.{columns-spans, spans_width-cons, spans_width
 
 -- ---- a cell's rows fit its column
 
-abbrev Fit : ℕ → List (List SpanView) → Type 0
+abbrev pub Fit : ℕ → List (List SpanView) → Type 0
 Fit w parts = AllByRecursion (λ spans. spans_width spans ≤ w) parts
 
 fit-rows : (w : ℕ) (rows : List (List Grapheme)) → Genuine (joined rows) → AllByRecursion (λ row. columns row ≤ w) rows → Fit w (map (λ row. map glyph row) rows)
@@ -32,7 +32,7 @@ fit-rows w [] h narrow = tt
 fit-rows w (row ∷ rows) h narrow =
     (omega (arith, narrow.0, spans_width-glyphs row (genuine-front row (joined rows) h)), fit-rows w rows (genuine-back row (joined rows) h) narrow.1)
 
-fit-cell : (w : ℕ) (cell : LineView) → NoneWider w (graphs cell) → Fit w (cell_rows w cell)
+pub fit-cell : (w : ℕ) (cell : LineView) → NoneWider w (graphs cell) → Fit w (cell_rows w cell)
 fit-cell w cell ok = go (nat_le (cell_width cell) w) refl
   where
     go : (b : Bool) → nat_le (cell_width cell) w ≡ b → Fit w (cond b (cell.spans ∷ []) (map (λ row. map glyph row) (wrap w (graphs cell))))
@@ -41,11 +41,11 @@ fit-cell w cell ok = go (nat_le (cell_width cell) w) refl
         fit-rows w (wrap w (graphs cell)) (genuine-thinned (graphs cell) _ (Thinned-wrap w (graphs cell) ok) (genuine-spans cell.style cell.spans))
         (recursion_from_All (λ (row : List Grapheme). columns row ≤ w) _ (AllNarrow-wrap w (graphs cell) ok))
 
-fit-first : (w : ℕ) (parts : List (List SpanView)) → Fit w parts → spans_width (first_part parts) ≤ w
+pub fit-first : (w : ℕ) (parts : List (List SpanView)) → Fit w parts → spans_width (first_part parts) ≤ w
 fit-first w [] f = omega arith
 fit-first w (spans ∷ parts) f = f.0
 
-fit-others : (w : ℕ) (parts : List (List SpanView)) → Fit w parts → Fit w (other_parts parts)
+pub fit-others : (w : ℕ) (parts : List (List SpanView)) → Fit w parts → Fit w (other_parts parts)
 fit-others w [] f = tt
 fit-others w (spans ∷ parts) f = f.1
 

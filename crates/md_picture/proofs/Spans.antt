@@ -40,7 +40,7 @@ columns-visible s t (p ∷ ps) = go (is_visible p) (columns-visible s t ps)
 pub spans_width-cons : (span : SpanView) (spans : List SpanView) → spans_width (span ∷ spans) ≡ span_width span + spans_width spans
 spans_width-cons span spans = sum_by-cons (λ (s : SpanView). span_width s) span spans
 
-spans_width-append : (xs ys : List SpanView) → spans_width (xs ++ ys) ≡ spans_width xs + spans_width ys
+pub spans_width-append : (xs ys : List SpanView) → spans_width (xs ++ ys) ≡ spans_width xs + spans_width ys
 spans_width-append xs ys = sum_by-append (λ (s : SpanView). span_width s) xs ys
 
 pub columns-spans : (under : Style) (spans : List SpanView) → columns (spans_graphs under spans) ≡ spans_width spans
@@ -82,7 +82,7 @@ pub span_width-bar : (style : Style) → span_width (bar style) ≡ 1
 unfolding in_ranges
 span_width-bar style = span_width-narrow style (0x2502 ∷ []) (encode_utf8_all (codes "│")) refl (refl, refl)
 
-printable-blanks : (n : ℕ) → IsPrintable (replicate n 32)
+pub printable-blanks : (n : ℕ) → IsPrintable (replicate n 32)
 printable-blanks zero = refl
 printable-blanks (suc n) = printable-blanks n
 
@@ -230,7 +230,7 @@ visible-nothing style span e = ap (λ (t : List ℕ). visible style (pieces_of (
     go true = ap (λ v. cond v (grapheme_of style [] ∷ []) []) hidden-nothing
     go false = visible-plain style [] (ap (list_all is_plain) chars-nil) ∙ ap (map (plain_grapheme style)) chars-nil
 
-spans_width-cell_spans : (style : Style) (spans : List SpanView) → spans_width (cell_spans style spans) ≡ spans_width spans
+pub spans_width-cell_spans : (style : Style) (spans : List SpanView) → spans_width (cell_spans style spans) ≡ spans_width spans
 unfolding cell_spans
 spans_width-cell_spans style [] = refl
 spans_width-cell_spans style (span ∷ spans) = go (nat_eq (length span.text) 0) refl (spans_width-cell_spans style spans) ∙ sym (spans_width-cons span spans)
@@ -242,7 +242,7 @@ spans_width-cell_spans style (span ∷ spans) = go (nat_eq (length span.text) 0)
     go false e k =
         omega (arith, spans_width-cons (patched style span) (cell_spans style spans), columns-visible (patch span.style style) span.style (pieces_of span), k)
 
-left-within : (alignment : Alignment) (room : ℕ) → left_room alignment room ≤ room
+pub left-within : (alignment : Alignment) (room : ℕ) → left_room alignment room ≤ room
 left-within align.None room = omega arith
 left-within align.Left room = omega arith
 left-within align.Center room = omega arith

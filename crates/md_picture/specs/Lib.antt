@@ -4,3 +4,4 @@ pub mod Fits
 pub mod Widths
 pub mod Kept
 pub mod Least
+pub mod Shown
