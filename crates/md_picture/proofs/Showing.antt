@@ -20,7 +20,7 @@ use Rattle.md_picture.specs.Cells.{cell_rows}
 use Rattle.md_picture.specs.Fits.{RowFits, RowsFit}
 use Rattle.md_picture.specs.Kept.{restyled}
 use Rattle.md_picture.specs.Picture.{TableView, bar, cell_spans, first_cell, first_part, height_of, left_room, lengthened, other_cells, other_parts, pad, part, picture_of, room_of, row_lines, row_parts, spans_width, with_cells, with_parts}
-use Rattle.md_picture.specs.Shown.{IsPadded, ShowsCell, ShowsCells, behind, blanks, lines_at, row_cells, row_style, within}
+use Rattle.md_picture.specs.Shown.{IsPadded, ShowsCells, behind, blanks, lines_at, row_cells, row_style, within}
 use Rattle.md_picture.proofs.Greatest.{length-with_parts}
 use Rattle.md_picture.proofs.Keeping.{parts-thinned, patch-no_style}
 use Rattle.md_picture.proofs.Lines.{Fit, fit-cell, fit-first, fit-others}
