@@ -25,8 +25,8 @@ pub fn cells_fit_their_columns()
     ensures { (width : Option ℕ) (table : TableView) → RowsFit (table_columns width table) (table.header ∷ table.rows) }
 {}
 
-/// The parts of a cell in the lines of a picture, joined, are its visible graphemes without some blanks, each in its
-/// style patched by the style of cells.
+/// The rows of a cell in its column, joined, are its visible graphemes without some blanks, each in its style patched by
+/// the style of cells.
 pub fn parts_are_the_graphemes_without_blanks()
     ensures { (style : Style) (width : ℕ) (cell : LineView) → cell.style ≡ no_style → NoneWider width (graphs cell)
         → Thinned (restyled style (graphs cell)) (parts_graphs style width cell) }
@@ -50,7 +50,7 @@ pub fn rows_stand_at_their_places()
     ensures { (styles : Styles) (width : Option ℕ) (dividers : Bool) (table : TableView) (at : ℕ)
         → at ≤ length table.rows → 0 < length (table_columns width table)
         → lines_at dividers (table_columns width table) table at (picture styles width dividers table)
-            ≡ row_lines styles.border (row_style styles at) (table_columns width table) (row_cells table at) }
+        ≡ row_lines styles.border (row_style styles at) (table_columns width table) (row_cells table at) }
 {}
 
 /// The lines of a picture at a row's place show each of its cells in its column: its visible graphemes without some
@@ -59,5 +59,5 @@ pub fn a_picture_keeps_its_cells()
     ensures { (styles : Styles) (width : Option ℕ) (dividers : Bool) (table : TableView) (at : ℕ)
         → at ≤ length table.rows
         → ShowsCells (row_style styles at) 1 (table_columns width table) (row_cells table at)
-            (lines_at dividers (table_columns width table) table at (picture styles width dividers table)) }
+        (lines_at dividers (table_columns width table) table at (picture styles width dividers table)) }
 {}
