@@ -135,9 +135,16 @@ fn light(number: u8) -> Color
 pub(crate) fn after_item(style: Style, item: Item) -> Style
     ensures { result ≡ after_item style item }
 {
-    match listed(item.code) {
-        Some(code) => acts(code, item.color, style),
-        None => style,
+    // the colours and the reset, which come most often, are set without a code between
+    match item.code {
+        0 => Style::reset(),
+        30..=37 => style.fg(dark(item.code - 30)),
+        40..=47 => style.bg(dark(item.code - 40)),
+        90..=97 => style.fg(light(item.code - 90)),
+        code => match listed(code) {
+            Some(code) => acts(code, item.color, style),
+            None => style,
+        },
     }
 }
 

@@ -14,11 +14,18 @@ use memchr::memchr;
 use std::alloc::Global;
 use term_text::{CowStr, Line, Span, Style};
 
+/// So few bytes are sooner looked at one by one than sixteen at a time.
+const FEW: usize = 24;
+
 /// How many bytes stand before the first escape byte.
 pub(crate) fn first_escape(bytes: &[u8]) -> usize
     ensures value { result ≡ first_escape bytes.now }
     ensures within { result ≤ length bytes.now }
 {
+    // a sequence often stands directly behind another
+    if !bytes.is_empty() && bytes[0] == 27 {
+        return 0;
+    }
     match memchr(27, bytes) {
         Some(place) => place,
         None => bytes.len(),
@@ -74,6 +81,10 @@ pub(crate) fn ansi_line<'a>(
 fn is_utf8(stretch: &[u8]) -> bool
     ensures { result ≡ is_utf8 stretch.now }
 {
+    // most stretches are short and ASCII
+    if stretch.len() <= FEW && stretch.is_ascii() {
+        return true;
+    }
     match simdutf8::compat::from_utf8(stretch) {
         Ok(_) => true,
         Err(_) => false,

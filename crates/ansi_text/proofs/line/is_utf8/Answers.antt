@@ -1,7 +1,10 @@
 use Rattle.std.proofs.Common.{sym}
-use Rattle.std.proofs.lemmas.Str.{is_utf8-from_IsUtf8}
+use Rattle.std.proofs.lemmas.Str.{IsUtf8-from_ascii, is_utf8-from_IsUtf8}
 use Rattle.ansi_text.proofs.LineLemmas.{is_utf8-not}
 use Rattle.ansi_text.proofs.line.is_utf8.Goals as goal
+
+pub returns-then-is_ascii : goal.returns-then-is_ascii
+returns-then-is_ascii c = sym (is_utf8-from_IsUtf8 _ (IsUtf8-from_ascii _ c.if-is_ascii.ensures.cases))
 
 pub returns-in-Ok : goal.returns-in-Ok
 returns-in-Ok c = sym (is_utf8-from_IsUtf8 _ c.in-Ok.ensures.cases.1)
