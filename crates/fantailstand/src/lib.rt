@@ -1,6 +1,6 @@
-//! All that a program needs that shows Markdown or coloured text: styles and texts, cells and buffers, pages, the style
-//! sheet, options and highlighters, tables, the calls that read a text and draw it, cells as text with SGR sequences, and
-//! the last lines of a log.
+//! All that a program needs that shows Markdown or coloured text: styles and texts, cells and buffers, pages and widgets,
+//! the style sheet, options and highlighters, tables, the calls that read a text and draw it, cells as text with SGR
+//! sequences, and the last lines of a log.
 #![tactic(auto)]
 
 pub use ansi_feed::{Feed, FeedError};
@@ -17,8 +17,9 @@ pub use md_text::{
 };
 pub use term_ansi::{PrintError, print_ansi, separable};
 pub use term_core::{
-    Alignment, Buffer, Cell, Color, Counted, CowStr, Cutter, Graph, Ledger, Line, Modifier,
-    NoSteps, Rect, Row, Span, Steps, Style, Text, VisitedCells, Widget, WidgetError,
+    Alignment, Buffer, Caption, Cell, Color, Counted, CowStr, Cutter, Graph, Ledger, Line,
+    Modifier, NoSteps, Paint, Rect, Row, Span, Steps, Style, Text, VisitedCells, Widget,
+    WidgetError,
 };
-pub use term_widgets::Page;
+pub use term_widgets::{Block, Page, Paragraph};
 pub use view_print::print_view;

@@ -4,3 +4,7 @@ pub mod PageLemmas
 pub mod ThinnedLemmas
 pub mod CutsLemmas
 pub mod ViewLemmas
+pub mod AreaLemmas
+pub mod ChangeLemmas
+pub mod BlockLemmas
+pub mod ParagraphLemmas

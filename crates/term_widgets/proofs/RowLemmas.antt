@@ -77,7 +77,7 @@ views_agree rows w h k r s i j a b e =
 
 -- ---- a row at the front of those that are left
 
-slice_get-drop_head : {A : Type 0} (n : ℕ) (xs rest : List A) (x : A) → drop n xs ≡ x ∷ rest → slice_get xs n ≡ Some x
+pub slice_get-drop_head : {A : Type 0} (n : ℕ) (xs rest : List A) (x : A) → drop n xs ≡ x ∷ rest → slice_get xs n ≡ Some x
 slice_get-drop_head zero [] rest x e = cc
 slice_get-drop_head zero (y ∷ ys) rest x e = cc
 slice_get-drop_head (suc n) [] rest x e = cc

@@ -5,6 +5,10 @@ pub use Rattle.term_core.specs.Cells
 pub use Rattle.term_core.specs.Buffers
 pub use Rattle.term_core.specs.BufferRows
 pub use Rattle.term_core.specs.Rect
+pub use Rattle.term_core.specs.Caption
+pub use Rattle.term_core.specs.Paint
 pub mod Page
 pub mod Cuts
 pub mod PageRows
+pub mod Block
+pub mod Paragraph

@@ -1,15 +1,21 @@
-//! Pages: texts wrapped at a width and drawn into a buffer.
+//! Pages and widgets: texts wrapped at a width, blocks and paragraphs, drawn into a buffer.
 //!
 //! A [`Page`] keeps its text. Its rows are the wraps of the text's lines, in order, and a drawing
-//! shows some of them, from any row on.
+//! shows some of them, from any row on. A [`Paragraph`] is a page in a [`Block`].
 #![tactic(auto)]
 
+mod block;
 mod cells;
 pub mod laws;
 mod lines;
 mod page;
 mod page_rows;
+mod paragraph;
 #[cfg(test)]
 mod tests;
+#[cfg(test)]
+mod widget_tests;
 
+pub use block::Block;
 pub use page::Page;
+pub use paragraph::Paragraph;
