@@ -21,5 +21,5 @@ pub use term_core::{
     Modifier, NoSteps, Paint, Rect, Row, Span, Steps, Style, Text, VisitedCells, Widget,
     WidgetError,
 };
-pub use term_widgets::{Block, Page, Paragraph};
+pub use term_widgets::{Block, MascotEyeColor, Page, Paragraph, RatatuiMascot};
 pub use view_print::print_view;

@@ -8,3 +8,5 @@ pub mod AreaLemmas
 pub mod ChangeLemmas
 pub mod BlockLemmas
 pub mod ParagraphLemmas
+pub mod MascotLemmas
+pub mod PictureLemmas

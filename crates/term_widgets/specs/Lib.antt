@@ -12,3 +12,4 @@ pub mod Cuts
 pub mod PageRows
 pub mod Block
 pub mod Paragraph
+pub mod Mascot
