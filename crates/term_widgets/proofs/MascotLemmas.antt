@@ -1,5 +1,5 @@
 -- The mascot, pair by pair and row by row.
-use Rattle.std.proofs.Common.{◌≡◌, ℕ, suc, ◌+◌, ◌-◌, ◌*◌, ◌<◌, ◌≤◌, Bool, true, false, nat_le, nat_lt, ◌==◌, ◌&&◌, List, [], ◌∷◌, length, drop, Option, Some, None, refl, sym, ap, ap₂, ◌∙◌, arith, length-drop, Bor}
+use Rattle.std.proofs.Common.{◌≡◌, ℕ, ◌+◌, ◌-◌, ◌*◌, ◌<◌, ◌≤◌, true, false, nat_le, nat_lt, ◌==◌, ◌&&◌, List, [], ◌∷◌, length, drop, Option, Some, None, refl, sym, ap, ap₂, ◌∙◌, arith, length-drop}
 use Rattle.std.specs.Prelude.{◌++◌, map, slice_index_or, slice_get, option_map, unwrap_or, encode_utf8, MatchOption}
 use Rattle.std.specs.Str.{chars, IsUtf8}
 use Rattle.std.proofs.lemmas.Str.{chars_past_char}
@@ -13,7 +13,6 @@ use Rattle.term_core.specs.Cells.{CellView}
 use Rattle.term_core.specs.Rect.{has_place}
 use Rattle.term_core.proofs.CaptionLemmas.{slice_get-past}
 use Rattle.term_widgets.specs.declared.mascot.MascotEyeColor.{MascotEyeColor}
-use Rattle.term_widgets.specs.declared.picture.TheConstants.{PICTURE}
 use Rattle.term_widgets.specs.Mascot.{picture, dots_in, dots_of, both, pair_at, pair_paint, with_paint, pair_cell, mascot_cell}
 use Rattle.term_widgets.proofs.ChangeLemmas.{Changed, Changed-none, Changed-step, Changed-other, IsHere, changed, in_stretch}
 use Rattle.term_widgets.proofs.BlockLemmas.{row_begins, row_here, row_apart}

@@ -1,5 +1,5 @@
 -- The mascot's picture, checked once dot by dot.
-use Rattle.std.proofs.Common.{◌≡◌, ℕ, zero, suc, ◌+◌, ◌*◌, ◌<◌, ◌≤◌, ◌⊎◌, inl, inr, Bool, true, false, cond, nat_le, nat_lt, ◌==◌, ◌&&◌, ◌||◌, not, List, [], ◌∷◌, length, Option, Some, None, refl, sym, ap, ap₂, ◌∙◌, arith}
+use Rattle.std.proofs.Common.{◌≡◌, ℕ, zero, suc, ◌+◌, ◌*◌, ◌<◌, ◌≤◌, ◌⊎◌, inl, inr, Bool, true, false, nat_lt, ◌==◌, ◌&&◌, ◌||◌, not, List, [], ◌∷◌, Option, Some, None, refl, sym, ap, ap₂, ◌∙◌, arith}
 use Rattle.std.specs.Prelude.{map, slice_get, unwrap_or}
 use Rattle.std.specs.Str.{chars}
 use Rattle.std.proofs.lemmas.Bool.{and_parts}
@@ -8,7 +8,7 @@ use Rattle.term_widgets.specs.declared.mascot.MascotEyeColor.{MascotEyeColor}
 use Rattle.term_widgets.specs.declared.mascot.MascotEyeColor.TheVariants.{Default, Red}
 use Rattle.term_core.specs.Cells.{CellView}
 use Rattle.term_core.specs.Paint.{painted}
-use Rattle.term_widgets.specs.Mascot.{upper_half, full, picture, dots_of, both, paint_of, pair_at, pair_paint, pair_cell, with_paint, mascot_cell, is_dot, has_eye, eye_color, dot_color}
+use Rattle.term_widgets.specs.Mascot.{upper_half, full, picture, dots_of, both, paint_of, pair_paint, pair_cell, with_paint, mascot_cell, is_dot, has_eye, eye_color, dot_color}
 
 -- whether each item of a list passes a test, which is told the item's place too
 abbrev passes : {A : Type 0} → (ℕ → A → Bool) → ℕ → List A → Bool

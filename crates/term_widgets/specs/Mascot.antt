@@ -89,12 +89,13 @@ mascot_cell eye x y c = pair_cell eye (pair_at x y) c
 -- ---- what a cell displays
 
 -- the colours of the upper and the lower half of a cell with the symbol ▀, ▄, █ or a space
-abbrev pub halves : ℕ → Color → Color → Color × Color
+abbrev pub halves : ℕ → Color → Color → Option (Color × Color)
 halves symbol fg bg =
-    if symbol == 0x2580 then (fg, bg)
-    else if symbol == 0x2584 then (bg, fg)
-    else if symbol == 0x2588 then (fg, fg)
-    else (bg, bg)
+    if symbol == 0x2580 then Some (fg, bg)
+    else if symbol == 0x2584 then Some (bg, fg)
+    else if symbol == 0x2588 then Some (fg, fg)
+    else if symbol == 0x20 then Some (bg, bg)
+    else None
 
 -- the colour of a dot over a background: where the dot is blank, the background
 abbrev pub over : MascotEyeColor → ℕ → Color → Color

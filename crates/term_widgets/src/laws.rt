@@ -1,5 +1,5 @@
 // Laws over the rows of pages, and over the mascot.
-ghost use Rattle.std.specs.Prelude.{◌≡◌, ℕ, ◌+◌, ◌*◌, ◌<◌, ◌≤◌, ◌⊎◌, [], List, true, false, None, Some, IfSome, length, map, slice_get, unwrap_or};
+ghost use Rattle.std.specs.Prelude.{◌≡◌, ℕ, ◌+◌, ◌*◌, ◌<◌, ◌≤◌, ◌⊎◌, ◌↔◌, [], List, true, false, None, Some, IfSome, length, map, slice_get, unwrap_or};
 ghost use Rattle.std.specs.List.{All};
 ghost use Rattle.term_core.specs.Cells.{CellView, cells, view};
 ghost use Rattle.term_core.specs.Graph.{Grapheme, graphs};
@@ -56,8 +56,8 @@ pub fn page_rows_are_the_graphemes_without_blanks()
 /// blank dots is left as it is, and no other.
 pub fn halves_are_their_dots()
     ensures painted { (eye : MascotEyeColor) (a b : ℕ) (fg bg : Color) → IfSome (pair_paint eye a b) (λ paint.
-        halves paint.symbol (unwrap_or paint.fg fg) (unwrap_or paint.bg bg) ≡ (over eye a bg, over eye b bg)) }
-    ensures left { (eye : MascotEyeColor) (a b : ℕ) → pair_paint eye a b ≡ None → (a ≡ 0x20) × (b ≡ 0x20) }
+        halves paint.symbol (unwrap_or paint.fg fg) (unwrap_or paint.bg bg) ≡ Some (over eye a bg, over eye b bg)) }
+    ensures left { (eye : MascotEyeColor) (a b : ℕ) → (pair_paint eye a b ≡ None) ↔ ((a ≡ 0x20) × (b ≡ 0x20)) }
 {}
 
 /// The dots of the picture stand in 32 lines and 32 columns, and each is of one of seven kinds.

@@ -1,6 +1,5 @@
-use Rattle.std.proofs.Common.{◌≡◌, ℕ, List, Bor, chars, ap, ◌∙◌}
+use Rattle.std.proofs.Common.{ℕ, List, Bor, chars, ap, ◌∙◌}
 use Rattle.std.proofs.lemmas.Str.{chars-nil}
-use Rattle.std.specs.Str.Iter.{chars_rest}
 use Rattle.term_widgets.proofs.MascotLemmas.{dots_in-line, dots_in-past}
 use Rattle.term_widgets.proofs.mascot.dots_in.Goals as goal
 

@@ -1,4 +1,4 @@
-use Rattle.std.proofs.Common.{◌≡◌, cond, ◌==◌, ◌&&◌, sym, ap, ◌∙◌}
+use Rattle.std.proofs.Common.{cond, ◌==◌, ◌&&◌, sym, ap, ◌∙◌}
 use Rattle.std.specs.Prelude.{option_map}
 use Rattle.term_core.specs.Buffers.{cell_at}
 use Rattle.term_widgets.specs.Mascot.{with_paint}

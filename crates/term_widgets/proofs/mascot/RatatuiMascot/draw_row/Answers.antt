@@ -1,8 +1,6 @@
-use Rattle.std.proofs.Common.{◌≡◌, ◌+◌, ◌-◌, ◌==◌, ◌&&◌, sym, ap, ◌∙◌, arith}
+use Rattle.std.proofs.Common.{◌-◌, sym, ◌∙◌, arith}
 use Rattle.std.specs.Prelude.{chars}
 use Rattle.std.specs.Str.Iter.{chars_rest}
-use Rattle.term_core.specs.Rect.{has_place}
-use Rattle.term_core.proofs.BufferLemmas.{has_place-from}
 use Rattle.term_widgets.proofs.MascotLemmas.{PairsDrawn-none, PairsDrawn-step, row-drawn, upper_ends, lower_ends}
 use Rattle.term_widgets.proofs.mascot.RatatuiMascot.draw_row.Goals as goal
 
