@@ -23,8 +23,8 @@ fn lines_of_one_paragraph_are_read_once(rt: HostRuntime) -> Result<(), Fail> {
 #[test]
 fn containers_end_at_their_depth(rt: HostRuntime) -> Result<(), Fail> {
     let alloc = rt.alloc();
-    // 32 quotes and a paragraph; 32 lists of an item each and a paragraph
-    for (part, wanted) in [(">", 67usize), ("- ", 131)] {
+    // 32 quotes and a paragraph; 32 tight lists of an item each and a text
+    for (part, wanted) in [(">", 67usize), ("- ", 129)] {
         let mut text = times(alloc, part, COUNT)?;
         text.push_str("a")?;
         assert_eq!(rt; event_count(&rt, alloc, text.as_str())?, wanted, "{part}");
