@@ -3,7 +3,7 @@ use crate::texts::{event_count, times};
 use std::test::Fail;
 
 /// How often each part stands.
-const COUNT: usize = 1_000_000;
+const COUNT: usize = 400_000;
 
 #[test]
 fn openers_and_closers_without_a_partner_are_text(rt: HostRuntime) -> Result<(), Fail> {
@@ -44,7 +44,7 @@ fn runs_of_backticks_of_many_lengths_are_text(rt: HostRuntime) -> Result<(), Fai
     let alloc = rt.alloc();
     let mut text = String::new(alloc);
     let mut run = String::new(alloc);
-    for _ in 0usize..7000 {
+    for _ in 0usize..10_000 {
         run.push_str("`")?;
         text.push_str("a")?;
         text.push_str(run.as_str())?;
