@@ -1,7 +1,8 @@
-//! Texts that would take minutes if reading took a square of their length.
+//! Long texts of marks that find no partner, and of lines that begin many blocks or none.
 //!
 //! No contract tells of time: a memo of the reader that is never filled, or a place that does not move, is proved as well.
-//! Each text is millions of bytes long, so that a square of them passes the time that a test may take.
+//! Each text has hundreds of thousands of parts, so that work on each pair of them would be some 100 thousand million steps,
+//! which is about the minute that a test may take, or more.
 #![tactic(auto)]
 
 #[cfg(test)]
