@@ -1,5 +1,5 @@
 -- What the writers of quotes, lists and items keep.
-use Rattle.std.proofs.Common.{List, [], ◌∷◌, ◌++◌, length, drop, take, get_or, ◌≡◌, ◌≤◌, ◌<◌, ◌+◌, ℕ, zero, suc, refl, sym, ap, ◌∙◌, arith, Bool, true, false, cond, not, Option, Some, None, append-nil}
+use Rattle.std.proofs.Common.{List, [], ◌∷◌, ◌++◌, length, drop, take, get_or, ◌≡◌, ◌≤◌, ◌<◌, ◌+◌, ◌-◌, ℕ, zero, suc, refl, sym, ap, ◌∙◌, arith, Bool, true, false, cond, not, Option, Some, None, append-nil}
 use Rattle.std.specs.Option.{is_some}
 use Rattle.std.proofs.lemmas.Bool.{false≢true}
 use Rattle.std.proofs.lemmas.List.{drop_more}
@@ -46,8 +46,8 @@ quoted-within (line ∷ later) = go (quotes line) (quoted-within later)
     go true le = omega arith
     go false le = omega arith
 
-pub quote-within : (lines inner : List LineText) → inner ≡ quoted lines → length inner ≤ length lines
-quote-within lines inner e = omega (arith, ap length e, quoted-within lines)
+pub quote-within : (n : ℕ) (lines inner : List LineText) → begins_quote lines ≡ true → inner ≡ quoted lines → length inner - 1 < length lines
+quote-within n lines inner b e = omega (arith, ap length e, quoted-within lines, quote-lines n lines inner b e)
 
 is_some-number : (number : Option ℕ) → is_some number ≡ has_number number
 is_some-number None = refl

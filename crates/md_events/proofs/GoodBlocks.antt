@@ -1,5 +1,5 @@
 -- The blocks of lines are good.
-use Rattle.std.proofs.Common.{List, [], ◌∷◌, ◌≡◌, ◌≤◌, ◌<◌, ◌+◌, ◌-◌, ◌^◌, ◌==◌, length, ℕ, zero, suc, refl, sym, arith, true, false, Bool, cond, not, ◌&&◌, take, Option, None, Some}
+use Rattle.std.proofs.Common.{List, [], ◌∷◌, ◌≡◌, ◌≤◌, ◌<◌, ◌+◌, ◌-◌, ◌^◌, ◌==◌, length, ℕ, zero, suc, refl, sym, arith, true, false, Bool, cond, not, ◌&&◌, map, take, Option, None, Some}
 use Rattle.std.proofs.lemmas.Bool.{eqb-true, false≢true}
 use Rattle.md_tree.specs.declared.event.Event.TheVariants as event
 use Rattle.md_tree.specs.declared.event.Tag.TheVariants as tag
@@ -12,24 +12,27 @@ use Rattle.md_tree.specs.Tree.{Nodes, Empty, Branch}
 use Rattle.md_tree.specs.Tree as nodes
 use Rattle.md_tree.specs.Good.{good_at, holds_blocks, level_of, numbers_after, numbers_from}
 use Rattle.md_tree.proofs.Nodes.{and_both, good_at-level}
-use Rattle.md_lines.specs.Lines.{LineText, is_empty, lines_of}
+use Rattle.md_lines.specs.Lines.{LineText, body_of, is_empty, lines_of}
 use Rattle.md_inline.specs.Inlines.{inlines}
 use Rattle.md_inline.proofs.GoodInlines.{inlines-good}
 use Rattle.md_rules.specs.declared.item.Marker.{Marker}
-use Rattle.md_rules.specs.Code.{text_from}
+use Rattle.md_rules.specs.Code.{hanging, text_from}
+use Rattle.md_rules.specs.Fences.{fenced}
+use Rattle.md_rules.specs.Headings.{heading_at}
 use Rattle.md_rules.specs.Items.{item_column, item_line, item_lines, item_more, marker_of, task_of}
 use Rattle.md_rules.specs.Lists.{is_loose, next_item}
 use Rattle.md_rules.specs.Quotes.{first_alert, quoted}
 use Rattle.md_rules.specs.Tables.{cells}
 use Rattle.md_rules.proofs.Filled.{filled, filled-first, filled-item, filled-later, filled-lines_of, filled-quoted, filled-take, filled-without_kind}
+use Rattle.md_rules.specs.declared.start.Items.TheVariants.{All}
 use Rattle.md_rules.proofs.ItemLemmas.{marker-small}
+use Rattle.md_rules.proofs.StartLemmas.{each-start, item_start-marker}
 use Rattle.md_events.specs.Node.{Node, Run, node_then}
 use Rattle.md_events.specs.CodeBlocks.{code_lines, text_then}
 use Rattle.md_events.specs.Containers.{in_item, inside_quote, item_then, items, list_lines}
-use Rattle.md_events.specs.Tables.{cell_nodes, row_nodes}
-use Rattle.md_events.specs.Blocks.{block, blocks, blocks_after, tree}
+use Rattle.md_events.specs.Tables.{cell_nodes, row_nodes, rows}
+use Rattle.md_events.specs.Blocks.{block, block_by, blocks, blocks_after, paragraph_more, tree}
 use Rattle.md_events.proofs.GoodPlaces.{inlines-mixed, with_task-good}
-use Rattle.md_events.proofs.RuleSteps.{block-node}
 
 -- the most nonempty lines of a text whose length fits 64 bits
 abbrev most : ℕ
@@ -154,20 +157,22 @@ run-good level.MetadataTexts true may stands bodies = absurd may
 
 block-good : (h : Holds) (tight nests : Bool) (read : Bool → List LineText → Nodes) → MayRead h tight → holds_blocks h ≡ true → ReadsGood read → (line : LineText) (later : List LineText) → filled (line ∷ later) ≤ most → KeepsGood h tight (block nests read line later).node
 block-good h tight nests read may stands good line later small =
-    block-node (KeepsGood h tight) nests read line later
+    each-start (λ s. KeepsGood h tight (block_by nests read line later s).node) nests All line later
     (record {
-      heading = λ heading rest g. three (holds_blocks h) _ _ stands (inlines-good (heading.content.body ∷ [])) g;
-      rule = λ rest g. and_both (holds_blocks h) _ stands g;
-      code = λ kind column lines rest g. three (holds_blocks h) _ _ stands (code_lines-good column lines) g;
+      code = λ e. code 4 (line ∷ take (hanging 4 later) later);
+      fence = λ fence c e. code fence.indent (take (fenced fence later) later);
+      thematic_break = λ c f e rest g. and_both (holds_blocks h) _ stands g;
+      heading = λ level c f b e rest g. three (holds_blocks h) _ _ stands (inlines-good ((heading_at level line).content.body ∷ [])) g;
+      quote = λ text n q rest g. three (holds_blocks h) _ _ stands (quote_inside (quoted (line ∷ later)) (omega (arith, filled-quoted (line ∷ later)))) g;
+      item = λ marker text n q e rest g. three (holds_blocks h) _ _ stands
+          (items-good read good (not (is_loose (take (list_lines marker line later) later))) marker.kind 0 (line ∷ later) (numbers_from marker.number) (first-fits line marker (filled (line ∷ later)) (item_start-marker All line marker e) small) small) g;
+      table = λ text none e rest g. three (holds_blocks h) _ _ stands (and_both _ _ (cell_nodes-good (cells line)) (row_nodes-good (rows nests later))) g;
+      paragraph = λ text none e. run-good h tight may stands (map body_of (line ∷ take (paragraph_more nests later) later));
     })
-    (record {
-      quote = λ e rest g. three (holds_blocks h) _ _ stands (quote_inside (quoted (line ∷ later)) (omega (arith, filled-quoted (line ∷ later)))) g;
-      list = λ marker e rest g. three (holds_blocks h) _ _ stands
-          (items-good read good (not (is_loose (take (list_lines marker line later) later))) marker.kind 0 (line ∷ later) (numbers_from marker.number) (first-fits line marker (filled (line ∷ later)) e small) small) g;
-    })
-    (λ sides head rows rest g. three (holds_blocks h) _ _ stands (and_both _ _ (cell_nodes-good (cells head)) (row_nodes-good rows)) g)
-    (λ bodies. run-good h tight may stands bodies)
   where
+    code : (column : ℕ) (lines : List LineText) (rest : Nodes) → good_at (level_of h) rest ≡ true → (holds_blocks h && (good_at (level_of level.CodeTexts) (code_lines column lines) && good_at (level_of h) rest)) ≡ true
+    code column lines = λ rest g. three (holds_blocks h) _ _ stands (code_lines-good column lines) g
+
     quote_inside : (lines : List LineText) → filled lines ≤ most → good_at (level_of level.Blocks) (read false (inside_quote lines)) ≡ true
     quote_inside lines le = good level.Blocks false refl (inside_quote lines) (omega (arith, filled-without_kind (first_alert lines) lines))
 

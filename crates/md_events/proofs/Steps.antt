@@ -1,5 +1,5 @@
 -- Blocks after the first lines, and what the writers of blocks keep.
-use Rattle.std.proofs.Common.{List, [], ◌∷◌, ◌++◌, length, drop, take, get_or, ◌≡◌, ◌≤◌, ◌<◌, ◌+◌, ◌-◌, ℕ, zero, suc, refl, sym, ap, ◌∙◌, arith, Bool, true, false, append_assoc, map, append-nil}
+use Rattle.std.proofs.Common.{List, [], ◌∷◌, ◌++◌, length, drop, take, get_or, ◌≡◌, ◌≤◌, ◌<◌, ◌+◌, ◌-◌, ℕ, zero, suc, refl, sym, ap, ◌∙◌, arith, Bool, true, false, append_assoc, append-nil, Option, Some, None}
 use Rattle.std.proofs.lemmas.List.{drop_more}
 use Rattle.std.proofs.Math.ListN.{drop_of_length-le}
 use Rattle.md_tree.specs.declared.event.Event.{Event}
@@ -10,12 +10,11 @@ use Rattle.md_tree.specs.declared.event.TagEnd.{TagEnd}
 use Rattle.md_tree.specs.declared.event.TagEnd.TheVariants as end
 use Rattle.md_tree.specs.Tree.{Nodes, Empty, Branch, end_of, events, events_then}
 use Rattle.md_tree.proofs.Nodes.{events-nodes_then, events_then-events, nodes_then-empty}
-use Rattle.md_lines.specs.Lines.{LineText, body_of, is_empty}
-use Rattle.md_inline.specs.Inlines.{inlines}
+use Rattle.md_lines.specs.Lines.{LineText, is_empty}
 use Rattle.md_rules.proofs.Slices.{drop-drop, slice-rest}
 use Rattle.md_events.specs.Node.{Node, Single, Element, Run, node_then, block_events}
-use Rattle.md_events.specs.Blocks.{blocks_after, blocks, paragraph_more}
-use Rattle.md_events.specs.Written.{first_block, first_paragraph, nests, reader}
+use Rattle.md_events.specs.Blocks.{blocks_after, blocks}
+use Rattle.md_events.specs.Written.{first_block, marked, nests, reader}
 
 -- the blocks of lines, by how the lines of containers are read
 blocks-reader : (n : ℕ) (tight : Bool) (lines : List LineText) → blocks n tight lines ≡ blocks_after (nests n) (reader n) tight 0 lines
@@ -23,12 +22,12 @@ unfolding blocks
 blocks-reader zero tight lines = refl
 blocks-reader (suc n) tight lines = refl
 
-blocks-none : (n : ℕ) (tight : Bool) → blocks n tight [] ≡ Empty
+pub blocks-none : (n : ℕ) (tight : Bool) → blocks n tight [] ≡ Empty
 unfolding blocks_after
 blocks-none n tight = blocks-reader n tight []
 
 -- an empty line is passed over
-blocks-empty : (n : ℕ) (tight : Bool) (line : LineText) (later : List LineText) → is_empty line ≡ true → blocks n tight (line ∷ later) ≡ blocks n tight later
+pub blocks-empty : (n : ℕ) (tight : Bool) (line : LineText) (later : List LineText) → is_empty line ≡ true → blocks n tight (line ∷ later) ≡ blocks n tight later
 unfolding blocks_after
 blocks-empty n tight line later e = blocks-reader n tight (line ∷ later) ∙ rw e (sym (blocks-reader n tight later))
 
@@ -39,7 +38,7 @@ blocks_after-skip nests read tight (suc n) [] = refl
 blocks_after-skip nests read tight (suc n) (line ∷ later) = blocks_after-skip nests read tight n later
 
 -- at a nonempty line there is a block, and the others follow it
-blocks-block : (n : ℕ) (tight : Bool) (line : LineText) (later : List LineText) → is_empty line ≡ false → blocks n tight (line ∷ later) ≡ node_then tight (first_block n (line ∷ later)).node (blocks n tight (drop (first_block n (line ∷ later)).more later))
+pub blocks-block : (n : ℕ) (tight : Bool) (line : LineText) (later : List LineText) → is_empty line ≡ false → blocks n tight (line ∷ later) ≡ node_then tight (first_block n (line ∷ later)).node (blocks n tight (drop (first_block n (line ∷ later)).more later))
 unfolding blocks_after
 blocks-block n tight line later e =
     let more : ℕ = (first_block n (line ∷ later)).more in
@@ -59,32 +58,16 @@ element-written t e inside old new same w =
     let whole : events_then inside (End (end_of t) ∷ []) ≡ events inside ++ End (end_of t) ∷ [] = events_then-events inside (End (end_of t) ∷ []) in
     w ∙ rw same (simp append_assoc (ap (λ x. old ++ Start t ∷ x) (sym whole)))
 
+-- a mark stands before the inlines
+pub events-marked : (mark : Option Bool) (inside : Nodes) → events (marked mark inside) ≡ events (marked mark Empty) ++ events inside
+events-marked None inside = refl
+events-marked (Some done) inside = refl
+
 -- one element more is written of several
 pub branch-turn : (t : Tag) (inside rest : Nodes) (old out new : List Event) → new ≡ out ++ events (Branch t inside Empty) → out ++ events (Branch t inside rest) ≡ old → new ++ events rest ≡ old
 branch-turn t inside rest old out new w h =
     let parts : events (Branch t inside rest) ≡ events (Branch t inside Empty) ++ events rest = events_then-events (Branch t inside Empty) (events rest) in
     ap (λ x. x ++ events rest) w ∙ (append_assoc out (events (Branch t inside Empty)) (events rest) ∙ (ap (λ x. out ++ x) (sym parts) ∙ h))
-
--- the inlines of the first lines, as many as the paragraph takes
-source-inlines : (n : Bool) (line : LineText) (later : List LineText) (count : ℕ) → count ≡ 1 + paragraph_more n (drop 1 (line ∷ later)) → inlines (map body_of (take count (line ∷ later))) ≡ inlines (map body_of (line ∷ take (paragraph_more n later) later))
-source-inlines n line later count c =
-    let k : count ≡ suc (paragraph_more n later) = omega arith in
-    ap (λ m. inlines (map body_of (take m (line ∷ later)))) k
-
--- what the writer of a paragraph ensures
-pub paragraph-written : (nests : Bool) (lines : List LineText) (old new : List Event) (count : ℕ) → 0 < length lines → count ≡ 1 + paragraph_more nests (drop 1 lines) → new ≡ ((old ++ Start Paragraph ∷ []) ++ events (inlines (map body_of (take count lines)))) ++ End end.Paragraph ∷ [] → new ≡ old ++ block_events false (first_paragraph nests lines)
-paragraph-written nests [] old new count lt c w = absurd (omega arith)
-paragraph-written nests (line ∷ later) old new count lt c w =
-    element-written Paragraph end.Paragraph _ old new refl (w ∙ ap (λ x. ((old ++ Start Paragraph ∷ []) ++ events x) ++ End end.Paragraph ∷ []) (source-inlines nests line later count c))
-
-pub run-written : (nests : Bool) (lines : List LineText) (old new : List Event) (count : ℕ) → 0 < length lines → count ≡ 1 + paragraph_more nests (drop 1 lines) → new ≡ old ++ events (inlines (map body_of (take count lines))) → new ≡ old ++ block_events true (first_paragraph nests lines)
-run-written nests [] old new count lt c w = absurd (omega arith)
-run-written nests (line ∷ later) old new count lt c w =
-    w ∙ ap (λ x. old ++ events x) (source-inlines nests line later count c ∙ sym (nodes_then-empty _))
-
-pub paragraph-lines : (nests : Bool) (lines : List LineText) (count : ℕ) → 0 < length lines → count ≡ 1 + paragraph_more nests (drop 1 lines) → count ≡ (first_paragraph nests lines).more + 1
-paragraph-lines nests [] count lt c = absurd (omega arith)
-paragraph-lines nests (line ∷ later) count lt c = omega arith
 
 -- one turn of the writer of blocks at an empty line
 pub empty-turn : (n : ℕ) (tight : Bool) (lines : List LineText) (at : ℕ) (d : LineText) (old out : List Event) → at < length lines → is_empty (get_or lines at d) ≡ true → out ++ events (blocks n tight (drop at lines)) ≡ old → out ++ events (blocks n tight (drop (at + 1) lines)) ≡ old
@@ -98,18 +81,17 @@ block-turn-at n tight line rest behind old out new e w y h =
     let parts : events (blocks n tight (line ∷ rest)) ≡ events (node_then tight node Empty) ++ events more = ap events (blocks-block n tight line rest e) ∙ events-node_then tight node more in
     ap (λ x. x ++ events (blocks n tight behind)) w ∙ (ap (λ x. (out ++ events (node_then tight node Empty)) ++ events (blocks n tight x)) y ∙ (append_assoc out (events (node_then tight node Empty)) (events more) ∙ (ap (λ x. out ++ x) (sym parts) ∙ h)))
 
-at_first : (at k more : ℕ) → k ≡ more + 1 → at + k ≡ (at + 1) + more
-at_first at k more e = omega arith
-
 -- one turn at a block
-pub block-turn : (n : ℕ) (tight : Bool) (lines : List LineText) (at k : ℕ) (d : LineText) (old out new : List Event) → at < length lines → is_empty (get_or lines at d) ≡ false → new ≡ out ++ block_events tight (first_block n (take (length lines - at) (drop at lines))) → k ≡ (first_block n (take (length lines - at) (drop at lines))).more + 1 → out ++ events (blocks n tight (drop at lines)) ≡ old → new ++ events (blocks n tight (drop (at + k) lines)) ≡ old
+pub block-turn : (n : ℕ) (tight : Bool) (lines : List LineText) (at k : ℕ) (d : LineText) (old out new : List Event) → at < length lines → is_empty (get_or lines at d) ≡ false → new ≡ out ++ block_events tight (first_block n (take (length lines - at) (drop at lines))) → k ≡ (first_block n (take (length lines - at) (drop at lines))).more → out ++ events (blocks n tight (drop at lines)) ≡ old → new ++ events (blocks n tight (drop (at + (1 + k)) lines)) ≡ old
 block-turn n tight lines at k d old out new lt e w c h =
     let line : LineText = get_or lines at d in
     let rest : List LineText = drop (at + 1) lines in
     let s : take (length lines - at) (drop at lines) ≡ line ∷ rest = slice-rest at lines ∙ drop_more lines at d lt in
     let more : ℕ = (first_block n (line ∷ rest)).more in
-    let y : drop (at + k) lines ≡ drop more rest = ap (λ x. drop x lines) (at_first at k more (c ∙ ap (λ x. (first_block n x).more + 1) s)) ∙ drop-drop more (at + 1) lines in
-    block-turn-at n tight line rest (drop (at + k) lines) old out new e (w ∙ ap (λ x. out ++ block_events tight (first_block n x)) s) y (ap (λ x. out ++ events (blocks n tight x)) (sym (drop_more lines at d lt)) ∙ h)
+    let count : k ≡ more = c ∙ ap (λ x. (first_block n x).more) s in
+    let place : at + (1 + k) ≡ (at + 1) + more = omega (arith, count) in
+    let y : drop (at + (1 + k)) lines ≡ drop more rest = ap (λ x. drop x lines) place ∙ drop-drop more (at + 1) lines in
+    block-turn-at n tight line rest (drop (at + (1 + k)) lines) old out new e (w ∙ ap (λ x. out ++ block_events tight (first_block n x)) s) y (ap (λ x. out ++ events (blocks n tight x)) (sym (drop_more lines at d lt)) ∙ h)
 
 pub blocks-end : (n : ℕ) (tight : Bool) (lines : List LineText) (at : ℕ) (old out : List Event) → length lines ≤ at → out ++ events (blocks n tight (drop at lines)) ≡ old → out ≡ old
 blocks-end n tight lines at old out le h =

@@ -1,5 +1,5 @@
 -- What the writers of tables keep.
-use Rattle.std.proofs.Common.{List, [], ◌∷◌, ◌++◌, length, drop, take, get_or, ◌≡◌, ◌≤◌, ◌<◌, ◌+◌, ℕ, refl, sym, ap, ◌∙◌, arith, Bool, true, cond, Some, None, append_assoc, append-nil}
+use Rattle.std.proofs.Common.{List, [], ◌∷◌, ◌++◌, length, drop, take, get_or, ◌≡◌, ◌≤◌, ◌<◌, ◌+◌, ℕ, refl, sym, ap, ◌∙◌, arith, Bool, true, false, append_assoc, append-nil}
 use Rattle.std.proofs.lemmas.Bool.{false≢true}
 use Rattle.std.proofs.lemmas.List.{drop_more}
 use Rattle.std.proofs.Math.ListN.{drop_of_length-le}
@@ -12,10 +12,10 @@ use Rattle.md_tree.specs.Tree.{Nodes, Empty, Branch, events}
 use Rattle.md_tree.proofs.Nodes.{events_then-events}
 use Rattle.md_lines.specs.Lines.{LineText}
 use Rattle.md_inline.specs.Inlines.{inlines}
-use Rattle.md_rules.specs.Tables.{alignments, begins_table, cells, row_count, starts_table}
+use Rattle.md_rules.specs.Rows.{row_count}
+use Rattle.md_rules.specs.Tables.{alignments, cells, starts_table}
 use Rattle.md_events.specs.Node.{block_events}
-use Rattle.md_events.specs.Tables.{cell_nodes, row_nodes, table}
-use Rattle.md_events.specs.Written.{first_table}
+use Rattle.md_events.specs.Tables.{cell_nodes, row_nodes, sides, table}
 use Rattle.md_events.proofs.Steps.{branch-turn, element-written}
 
 -- one cell more is written
@@ -35,20 +35,22 @@ rows-end lines at old out le h =
     let none : drop at lines ≡ [] = drop_of_length-le lines le in
     sym (append-nil out) ∙ (ap (λ x. out ++ events (row_nodes x)) (sym none) ∙ h)
 
--- the table at the first line, where one starts
-pub a_table : (nests : Bool) (lines later : List LineText) (line next : LineText) → 0 < length lines → line ≡ get_or lines 0 line → next ≡ get_or lines 1 next → later ≡ drop 1 lines → starts_table line later ≡ true → first_table nests lines ≡ Some (table nests line next (drop 2 lines))
-a_table nests [] later line next lt e f l starts = absurd (omega arith)
-a_table nests (first ∷ []) later line next lt e f l starts = absurd (false≢true (ap (starts_table line) (sym l) ∙ starts))
-a_table nests (first ∷ second ∷ rest) later line next lt e f l starts =
-    ap (λ v. cond v (Some (table nests first second rest)) None) (ap (λ x. begins_table x second) (sym e) ∙ (ap (starts_table line) (sym l) ∙ starts))
-    ∙ (ap (λ x. Some (table nests x second rest)) (sym e) ∙ ap (λ x. Some (table nests line x rest)) (sym f))
+-- a table starts before a line
+pub starts-some : (line : LineText) (later : List LineText) → starts_table line later ≡ true → 0 < length later
+starts-some line [] e = absurd (false≢true e)
+starts-some line (next ∷ rest) e = omega arith
+
+pub sides-next : (later : List LineText) (next : LineText) → 0 < length later → next ≡ get_or later 0 next → alignments next ≡ sides later
+sides-next [] next lt e = absurd (omega arith)
+sides-next (first ∷ rest) next lt e = ap alignments e
 
 -- what the writer of a table ensures
-pub table-written : (nests tight : Bool) (line next : LineText) (later rows : List LineText) (sides : List Alignment) (old new : List Event) → rows ≡ take (row_count nests later) later → sides ≡ alignments next → new ≡ (((old ++ Start (tag.Table sides) ∷ []) ++ events (Branch tag.TableHead (cell_nodes (cells line)) Empty)) ++ events (row_nodes rows)) ++ End end.Table ∷ [] → new ≡ old ++ block_events tight (table nests line next later)
-table-written nests tight line next later rows sides old new r s w =
+pub table-written : (nests : Bool) (line next : LineText) (later behind taken : List LineText) (columns : List Alignment) (old new : List Event) → 0 < length later → next ≡ get_or later 0 next → behind ≡ drop 1 later → taken ≡ take (row_count nests behind) behind → columns ≡ alignments next → new ≡ (((old ++ Start (tag.Table columns) ∷ []) ++ events (Branch tag.TableHead (cell_nodes (cells line)) Empty)) ++ events (row_nodes taken)) ++ End end.Table ∷ [] → new ≡ old ++ block_events false (table nests line later)
+table-written nests line next later behind taken columns old new lt e b r s w =
     let head : Nodes = Branch tag.TableHead (cell_nodes (cells line)) Empty in
     let inside : List LineText → Nodes = λ ls. Branch tag.TableHead (cell_nodes (cells line)) (row_nodes ls) in
-    let parts : events (inside rows) ≡ events head ++ events (row_nodes rows) = events_then-events head (events (row_nodes rows)) in
-    element-written (tag.Table sides) end.Table (inside rows) old new refl
-    (w ∙ ap (λ x. x ++ End end.Table ∷ []) (append_assoc (old ++ Start (tag.Table sides) ∷ []) (events head) (events (row_nodes rows)) ∙ ap (λ x. (old ++ Start (tag.Table sides) ∷ []) ++ x) (sym parts)))
-    ∙ (ap (λ x. old ++ events (Branch (tag.Table x) (inside rows) Empty)) s ∙ ap (λ x. old ++ events (Branch (tag.Table (alignments next)) (inside x) Empty)) r)
+    let parts : events (inside taken) ≡ events head ++ events (row_nodes taken) = events_then-events head (events (row_nodes taken)) in
+    element-written (tag.Table columns) end.Table (inside taken) old new refl
+    (w ∙ ap (λ x. x ++ End end.Table ∷ []) (append_assoc (old ++ Start (tag.Table columns) ∷ []) (events head) (events (row_nodes taken)) ∙ ap (λ x. (old ++ Start (tag.Table columns) ∷ []) ++ x) (sym parts)))
+    ∙ (ap (λ x. old ++ events (Branch (tag.Table x) (inside taken) Empty)) (s ∙ sides-next later next lt e)
+    ∙ ap (λ x. old ++ events (Branch (tag.Table (sides later)) (inside x) Empty)) (r ∙ ap (λ x. take (row_count nests x) x) b))

@@ -1,101 +1,96 @@
--- The task mark of an item among its events.
-use Rattle.std.proofs.Common.{List, [], ◌∷◌, ◌++◌, length, drop, take, get_or, ◌≡◌, ◌<◌, ◌+◌, ◌-◌, ℕ, zero, suc, refl, sym, ap, ◌∙◌, arith, Bool, true, false, cond, length-drop, take_all, append_assoc, Option, Some}
-use Rattle.std.specs.List.{swap, slice_set}
+-- The task mark of an item among its blocks.
+use Rattle.std.proofs.Common.{List, [], ◌∷◌, ◌++◌, length, drop, take, ◌≡◌, ◌≤◌, ◌<◌, ◌+◌, ℕ, zero, suc, refl, sym, ap, ◌∙◌, arith, Bool, true, false, cond, map, subst, append_assoc, Option, Some, None}
+use Rattle.std.specs.Bool.{⊤}
+use Rattle.std.specs.List.{prefix_len}
 use Rattle.std.proofs.lemmas.Bool.{false≢true}
-use Rattle.std.proofs.lemmas.List.Edits.{swap_is}
-use Rattle.std.proofs.Math.Seq.{drop-append_seam, take-append_seam}
 use Rattle.md_tree.specs.declared.event.Event.{Event}
 use Rattle.md_tree.specs.declared.event.Event.TheVariants as event
-use Rattle.md_tree.specs.declared.event.Tag.{Tag}
 use Rattle.md_tree.specs.declared.event.Tag.TheVariants as tag
 use Rattle.md_tree.specs.Tree.{Nodes, Empty, Leaf, Branch, events}
-use Rattle.md_lines.specs.Lines.{LineText, is_empty}
+use Rattle.md_lines.specs.Lines.{LineText, body_of, is_empty}
+use Rattle.md_inline.specs.Inlines.{inlines}
+use Rattle.md_rules.specs.declared.start.BlockStart.{BlockStart}
+use Rattle.md_rules.specs.declared.start.BlockStart.TheVariants as start
+use Rattle.md_rules.specs.declared.start.Items.TheVariants.{All}
+use Rattle.md_rules.specs.Starts.{block_start}
 use Rattle.md_events.specs.Node.{Node, node_then}
 use Rattle.md_events.specs.Containers.{mark_then, with_task}
-use Rattle.md_events.specs.Blocks.{block, blocks, blocks_after}
-use Rattle.md_events.specs.Written.{begins_paragraph, exchanged, into_paragraph, is_paragraph_start, starts_paragraph}
-use Rattle.md_events.proofs.RuleSteps.{block-node}
+use Rattle.md_events.specs.Blocks.{block_by, blocks, paragraph_more}
+use Rattle.md_events.specs.Written.{empty_front, front_paragraph, lines_by, marked, nests, reader}
+use Rattle.md_events.proofs.Steps.{branch-turn, blocks-block, blocks-empty, blocks-none}
 
--- the events from a place on
-pub events-rest : (at : ℕ) (es : List Event) → take (length es - at) (drop at es) ≡ drop at es
-events-rest at es = take_all (length es - at) (drop at es) (omega (arith, length-drop at es))
+-- the empty lines in front make no block
+pub front-blocks : (n : ℕ) (tight : Bool) (lines : List LineText) → blocks n tight (drop (empty_front lines) lines) ≡ blocks n tight lines
+front-blocks n tight [] = refl
+front-blocks n tight (line ∷ later) = go (is_empty line) refl (front-blocks n tight later)
+  where
+    go : (v : Bool) → is_empty line ≡ v → blocks n tight (drop (empty_front later) later) ≡ blocks n tight later → blocks n tight (drop (cond v (1 + empty_front later) 0) (line ∷ later)) ≡ blocks n tight (line ∷ later)
+    go true e more = let one : 1 + empty_front later ≡ suc (empty_front later) = omega arith in ap (λ k. blocks n tight (drop k (line ∷ later))) one ∙ (more ∙ sym (blocks-empty n tight line later e))
+    go false e more = refl
 
-pub begins_paragraph-drop : (mark : ℕ) (es : List Event) → begins_paragraph (drop mark es) ≡ starts_paragraph (drop (mark + 1) es)
-begins_paragraph-drop zero [] = refl
-begins_paragraph-drop (suc mark) [] = let next : suc mark + 1 ≡ suc (mark + 1) = omega arith in ap (λ n. starts_paragraph (drop n (let none : List Event = [] in none))) (sym next)
-begins_paragraph-drop zero (e ∷ es) = refl
-begins_paragraph-drop (suc mark) (e ∷ es) = let next : suc mark + 1 ≡ suc (mark + 1) = omega arith in begins_paragraph-drop mark es ∙ ap (λ n. starts_paragraph (drop n (e ∷ es))) (sym next)
+-- the first line is not empty, if there is one
+abbrev pub FirstIsText : List LineText → Type 0
+FirstIsText [] = ⊤
+FirstIsText (line ∷ later) = is_empty line ≡ false
 
--- two events stand there then
-pub begins_paragraph-within : (mark : ℕ) (es : List Event) → begins_paragraph (drop mark es) ≡ true → mark + 1 < length es
-begins_paragraph-within zero [] h = absurd (false≢true h)
-begins_paragraph-within (suc mark) [] h = absurd (false≢true h)
-begins_paragraph-within zero (e ∷ []) h = absurd (false≢true h)
-begins_paragraph-within zero (e ∷ f ∷ es) h = omega arith
-begins_paragraph-within (suc mark) (e ∷ es) h = let le = begins_paragraph-within mark es h in omega arith
+pub front-text : (lines : List LineText) → FirstIsText (drop (empty_front lines) lines)
+front-text [] = tt
+front-text (line ∷ later) = go (is_empty line) refl (front-text later)
+  where
+    go : (v : Bool) → is_empty line ≡ v → FirstIsText (drop (empty_front later) later) → FirstIsText (drop (cond v (1 + empty_front later) 0) (line ∷ later))
+    go true e more = let one : 1 + empty_front later ≡ suc (empty_front later) = omega arith in subst (λ (k : ℕ). FirstIsText (drop k (line ∷ later))) (sym one) more
+    go false e more = e
 
-set-exchanged : (d : Event) (mark : ℕ) (es : List Event) → mark + 1 < length es → slice_set (slice_set es mark (get_or es (mark + 1) d)) (mark + 1) (get_or es mark d) ≡ take mark es ++ exchanged (drop mark es)
-set-exchanged d zero [] lt = absurd (omega arith)
-set-exchanged d zero (e ∷ []) lt = absurd (omega arith)
-set-exchanged d zero (e ∷ f ∷ es) lt = refl
-set-exchanged d (suc mark) [] lt = absurd (omega arith)
-set-exchanged d (suc mark) (e ∷ es) lt =
-    let next : suc mark + 1 ≡ suc (mark + 1) = omega arith in
-    ap (λ n. slice_set (slice_set (e ∷ es) (suc mark) (get_or (e ∷ es) n d)) n (get_or es mark d)) next ∙ ap (λ x. e ∷ x) (set-exchanged d mark es (omega arith))
+-- a mark before blocks that begin with no paragraph
+mark-before : (n : ℕ) (done : Bool) (line : LineText) (later : List LineText) (s : BlockStart) (rest : Nodes) → lines_by (nests n) later s ≡ None → mark_then done (node_then false (block_by (nests n) (reader n) line later s).node rest) ≡ Leaf (event.TaskListMarker done) (node_then false (block_by (nests n) (reader n) line later s).node rest)
+mark-before n done line later start.Code rest e = refl
+mark-before n done line later (start.Fence fence) rest e = refl
+mark-before n done line later start.ThematicBreak rest e = refl
+mark-before n done line later (start.Heading level) rest e = refl
+mark-before n done line later start.Quote rest e = refl
+mark-before n done line later (start.Item marker) rest e = refl
+mark-before n done line later start.Table rest e = refl
+mark-before n done line later start.Paragraph rest e = cc
 
-pub swap-exchanged : (d : Event) (mark : ℕ) (es : List Event) → begins_paragraph (drop mark es) ≡ true → swap es mark (mark + 1) ≡ take mark es ++ into_paragraph (drop mark es)
-swap-exchanged d mark es h =
-    let within : mark + 1 < length es = begins_paragraph-within mark es h in
-    sym (swap_is es mark (mark + 1) d (omega arith) within) ∙ (set-exchanged d mark es within ∙ rw h refl)
+pub task-none : (n : ℕ) (tight done : Bool) (lines : List LineText) → FirstIsText lines → front_paragraph tight (nests n) lines ≡ None → with_task tight (Some done) (blocks n tight lines) ≡ Leaf (event.TaskListMarker done) (blocks n tight lines)
+task-none n true done lines text e = refl
+task-none n false done [] text e = ap (mark_then done) (blocks-none n false) ∙ ap (Leaf (event.TaskListMarker done)) (sym (blocks-none n false))
+task-none n false done (line ∷ later) text e =
+    let found = blocks-block n false line later text in
+    ap (mark_then done) found ∙ (mark-before n done line later (block_start (nests n) All line later) _ e ∙ ap (Leaf (event.TaskListMarker done)) (sym found))
 
--- no leaf that these nodes begin with starts a paragraph
-abbrev BeginsWhole : Nodes → Type 0
-BeginsWhole Empty = Unit {0}
-BeginsWhole (Leaf e rest) = is_paragraph_start e ≡ false
-BeginsWhole (Branch t inside rest) = Unit {0}
+mark-inside : (n : ℕ) (done : Bool) (line : LineText) (later : List LineText) (s : BlockStart) (k : ℕ) → lines_by (nests n) later s ≡ Some k → mark_then done (node_then false (block_by (nests n) (reader n) line later s).node (blocks n false (drop (block_by (nests n) (reader n) line later s).more later))) ≡ Branch tag.Paragraph (marked (Some done) (inlines (map body_of (take k (line ∷ later))))) (blocks n false (drop k (line ∷ later)))
+mark-inside n done line later start.Code k e = cc
+mark-inside n done line later (start.Fence fence) k e = cc
+mark-inside n done line later start.ThematicBreak k e = cc
+mark-inside n done line later (start.Heading level) k e = cc
+mark-inside n done line later start.Quote k e = cc
+mark-inside n done line later (start.Item marker) k e = cc
+mark-inside n done line later start.Table k e = cc
+mark-inside n done line later start.Paragraph k e =
+    let same : k ≡ suc (paragraph_more (nests n) later) = let counted : paragraph_more (nests n) later + 1 ≡ k = cc in omega (arith, counted) in
+    ap (λ m. Branch tag.Paragraph (marked (Some done) (inlines (map body_of (take m (line ∷ later))))) (blocks n false (drop m (line ∷ later)))) (sym same)
 
-abbrev IsWhole : Node → Type 0
-IsWhole node = (rest : Nodes) → BeginsWhole (node_then false node rest)
+pub task-some : (n : ℕ) (tight done : Bool) (lines : List LineText) (k : ℕ) → FirstIsText lines → front_paragraph tight (nests n) lines ≡ Some k → with_task tight (Some done) (blocks n tight lines) ≡ Branch tag.Paragraph (marked (Some done) (inlines (map body_of (take k lines)))) (blocks n tight (drop k lines))
+task-some n true done lines k text e = cc
+task-some n false done [] k text e = cc
+task-some n false done (line ∷ later) k text e =
+    ap (mark_then done) (blocks-block n false line later text) ∙ mark-inside n done line later (block_start (nests n) All line later) k e
 
-blocks_after-whole : (nests : Bool) (read : Bool → List LineText → Nodes) (n : ℕ) (lines : List LineText) → BeginsWhole (blocks_after nests read false n lines)
-unfolding blocks_after
-blocks_after-whole nests read n [] = tt
-blocks_after-whole nests read (suc n) (line ∷ later) = blocks_after-whole nests read n later
-blocks_after-whole nests read zero (line ∷ later) =
-    let passed = blocks_after-whole nests read zero later in
-    let rest : Nodes = blocks_after nests read false (block nests read line later).more later in
-    let here : IsWhole (block nests read line later).node =
-    block-node IsWhole nests read line later
-    (record { heading = λ h rest. tt; rule = λ rest. refl; code = λ kind column lines rest. tt })
-    (record { quote = λ e rest. tt; list = λ m e rest. tt })
-    (λ sides head rows rest. tt)
-    (λ bodies rest. tt) in
-    elim (is_empty line) as (λ v. BeginsWhole (cond v (blocks_after nests read false zero later) (node_then false (block nests read line later).node rest))) [ true ↦ passed | false ↦ here rest ]
+-- a mark in the paragraph that the blocks begin with
+pub marked-blocks : (n : ℕ) (tight done : Bool) (lines front rest : List LineText) (k : ℕ) (old new : List Event) → front ≡ drop (empty_front lines) lines → front_paragraph tight (nests n) front ≡ Some k → rest ≡ drop k front → new ≡ old ++ events (Branch tag.Paragraph (marked (Some done) (inlines (map body_of (take k front)))) Empty) → new ++ events (blocks n tight rest) ≡ old ++ events (with_task tight (Some done) (blocks n tight lines))
+marked-blocks n tight done lines front rest k old new f e r w =
+    let text : FirstIsText front = subst FirstIsText (sym f) (front-text lines) in
+    let here : blocks n tight lines ≡ blocks n tight front = sym (front-blocks n tight lines) ∙ ap (blocks n tight) (sym f) in
+    let whole = ap (with_task tight (Some done)) here ∙ task-some n tight done front k text e in
+    ap (λ x. new ++ events (blocks n tight x)) r
+    ∙ branch-turn tag.Paragraph (marked (Some done) (inlines (map body_of (take k front)))) (blocks n tight (drop k front)) (old ++ events (with_task tight (Some done) (blocks n tight lines))) old new w (ap (λ x. old ++ events x) (sym whole))
 
-blocks-whole : (n : ℕ) (lines : List LineText) → BeginsWhole (blocks n false lines)
-unfolding blocks
-blocks-whole zero lines = blocks_after-whole false (λ t ls. Empty) 0 lines
-blocks-whole (suc n) lines = blocks_after-whole true (λ t ls. blocks n t ls) 0 lines
-
-branch-mark : (done : Bool) (t : Tag) (inside rest : Nodes) → into_paragraph (event.TaskListMarker done ∷ events (Branch t inside rest)) ≡ events (mark_then done (Branch t inside rest))
-branch-mark done tag.Paragraph inside rest = refl
-branch-mark done t inside rest = refl
-
-nodes-mark : (done : Bool) (nodes : Nodes) → BeginsWhole nodes → into_paragraph (event.TaskListMarker done ∷ events nodes) ≡ events (mark_then done nodes)
-nodes-mark done Empty whole = refl
-nodes-mark done (Leaf e rest) whole = rw whole refl
-nodes-mark done (Branch t inside rest) whole = branch-mark done t inside rest
-
-mark-written : (n : ℕ) (lines : List LineText) (done : Bool) (mark : ℕ) (old out new : List Event) → mark ≡ length old → out ≡ (old ++ event.TaskListMarker done ∷ []) ++ events (blocks n false lines) → new ≡ take mark out ++ into_paragraph (drop mark out) → new ≡ old ++ events (mark_then done (blocks n false lines))
-mark-written n lines done mark old out new at w moved =
-    let own : List Event = event.TaskListMarker done ∷ events (blocks n false lines) in
-    let all : out ≡ old ++ own = w ∙ append_assoc old (event.TaskListMarker done ∷ []) (events (blocks n false lines)) in
-    let front : take mark out ≡ old = ap (λ k. take k out) at ∙ (ap (take (length old)) all ∙ take-append_seam old own) in
-    let back : drop mark out ≡ own = ap (λ k. drop k out) at ∙ (ap (drop (length old)) all ∙ drop-append_seam old own) in
-    moved ∙ (ap (λ x. x ++ into_paragraph (drop mark out)) front ∙ (ap (λ x. old ++ into_paragraph x) back ∙ ap (λ x. old ++ x) (nodes-mark done (blocks n false lines) (blocks-whole n lines))))
-
--- the mark before the events of an item's blocks, moved into a paragraph
-pub task-written : (n : ℕ) (tight : Bool) (task : Option Bool) (lines : List LineText) (done : Bool) (mark : ℕ) (old out new : List Event) → tight ≡ false → task ≡ Some done → mark ≡ length old → out ≡ (old ++ event.TaskListMarker done ∷ []) ++ events (blocks n tight lines) → new ≡ take mark out ++ into_paragraph (drop mark out) → new ≡ old ++ events (with_task tight task (blocks n tight lines))
-task-written n tight task lines done mark old out new loose found at w moved =
-    mark-written n lines done mark old out new at (w ∙ ap (λ v. (old ++ event.TaskListMarker done ∷ []) ++ events (blocks n v lines)) loose) moved
-    ∙ (ap (λ v. old ++ events (with_task v (Some done) (blocks n v lines))) (sym loose) ∙ ap (λ m. old ++ events (with_task tight m (blocks n tight lines))) (sym found))
+-- a mark before the blocks
+pub mark-first : (n : ℕ) (tight done : Bool) (lines front : List LineText) (old new : List Event) → front ≡ drop (empty_front lines) lines → front_paragraph tight (nests n) front ≡ None → new ≡ old ++ event.TaskListMarker done ∷ [] → new ++ events (blocks n tight front) ≡ old ++ events (with_task tight (Some done) (blocks n tight lines))
+mark-first n tight done lines front old new f e w =
+    let text : FirstIsText front = subst FirstIsText (sym f) (front-text lines) in
+    let here : blocks n tight lines ≡ blocks n tight front = sym (front-blocks n tight lines) ∙ ap (blocks n tight) (sym f) in
+    let whole = ap (with_task tight (Some done)) here ∙ task-none n tight done front text e in
+    ap (λ x. x ++ events (blocks n tight front)) w
+    ∙ (append_assoc old (event.TaskListMarker done ∷ []) (events (blocks n tight front)) ∙ ap (λ x. old ++ events x) (sym whole))

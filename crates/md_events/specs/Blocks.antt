@@ -1,21 +1,20 @@
 -- The blocks of a text.
-use Rattle.std.specs.Prelude.{ℕ, zero, suc, Bool, true, false, ◌||◌, ◌&&◌, if◌then◌else◌, List, [], ◌∷◌, map, take}
+use Rattle.std.specs.Prelude.{ℕ, zero, suc, Bool, true, false, ◌||◌, if◌then◌else◌, List, [], ◌∷◌, map, take}
 use Rattle.md_tree.specs.Tree.{Nodes, Empty}
 use Rattle.md_lines.specs.Lines.{LineText, body_of, is_empty, lines_of}
 use Rattle.md_inline.specs.Inlines.{inlines}
-use Rattle.md_rules.specs.Quotes.{quotes}
-use Rattle.md_rules.specs.Items.{item_interrupts}
-use Rattle.md_rules.specs.Lists.{begins_leaf}
-use Rattle.md_rules.specs.Tables.{starts_table}
-use Rattle.md_events.specs.Node.{Block, Run, node_then, or_else}
-use Rattle.md_events.specs.LeafBlocks.{leaf_block}
-use Rattle.md_events.specs.Containers.{container}
-use Rattle.md_events.specs.Tables.{table_block}
-
--- a line at which a paragraph ends, since another block begins there; whether a table does is told by the next line too
-abbrev pub interrupts : Bool → LineText → List LineText → Bool
-interrupts nests line later =
-    begins_leaf line || (nests && (quotes line || item_interrupts line)) || starts_table line later
+use Rattle.md_tree.specs.declared.event.Event.TheVariants as event
+use Rattle.md_tree.specs.declared.event.Tag.TheVariants as tag
+use Rattle.md_rules.specs.declared.heading.Heading.{Heading}
+use Rattle.md_rules.specs.declared.start.BlockStart.{BlockStart}
+use Rattle.md_rules.specs.declared.start.BlockStart.TheVariants as start
+use Rattle.md_rules.specs.declared.start.Items.TheVariants.{All}
+use Rattle.md_rules.specs.Headings.{heading_at}
+use Rattle.md_rules.specs.Starts.{block_start, interrupts}
+use Rattle.md_events.specs.Node.{Block, Element, Node, Run, Single, node_then, one_line}
+use Rattle.md_events.specs.CodeBlocks.{fence_block, indented}
+use Rattle.md_events.specs.Containers.{list, quote}
+use Rattle.md_events.specs.Tables.{table}
 
 -- how many lines go on with a paragraph: each further nonempty line at which no other block begins
 unfoldable pub paragraph_more : Bool → List LineText → ℕ
@@ -27,12 +26,24 @@ abbrev pub paragraph : Bool → LineText → List LineText → Block
 paragraph nests line later =
     record { node = Run (inlines (map body_of (line ∷ take (paragraph_more nests later) later))); more = paragraph_more nests later }
 
--- the block at a nonempty line, which later lines follow, by the first rule that holds
+-- a heading takes its line; its source is its content
+abbrev pub heading_node : Heading → Node
+heading_node h = Element (tag.Heading h.level h.id h.classes h.attrs) (inlines (h.content.body ∷ []))
+
+-- the block that begins so at a line that later lines follow
+abbrev pub block_by : Bool → (Bool → List LineText → Nodes) → LineText → List LineText → BlockStart → Block
+block_by nests read line later start.Code = indented line later
+block_by nests read line later (start.Fence fence) = fence_block fence later
+block_by nests read line later start.ThematicBreak = one_line (Single event.Rule)
+block_by nests read line later (start.Heading level) = one_line (heading_node (heading_at level line))
+block_by nests read line later start.Quote = quote read line later
+block_by nests read line later (start.Item marker) = list read marker line later
+block_by nests read line later start.Table = table nests line later
+block_by nests read line later start.Paragraph = paragraph nests line later
+
+-- the block at a nonempty line, which later lines follow
 abbrev pub block : Bool → (Bool → List LineText → Nodes) → LineText → List LineText → Block
-block nests read line later =
-    or_else (leaf_block line later)
-    (or_else (container nests read line later)
-    (or_else (table_block nests line later) (paragraph nests line later)))
+block nests read line later = block_by nests read line later (block_start nests All line later)
 
 -- the blocks of lines after the first so many; empty lines between blocks are passed over
 unfoldable pub blocks_after : Bool → (Bool → List LineText → Nodes) → Bool → ℕ → List LineText → Nodes

@@ -1,5 +1,5 @@
 -- Blocks of code.
-use Rattle.std.specs.Prelude.{ℕ, Option, None, Some, List, [], ◌∷◌, take}
+use Rattle.std.specs.Prelude.{ℕ, List, [], ◌∷◌, take}
 use Rattle.md_tree.specs.declared.event.CodeBlockKind.TheVariants.{Indented, Fenced}
 use Rattle.md_tree.specs.declared.event.Event.TheVariants as event
 use Rattle.md_tree.specs.declared.event.Tag.TheVariants as tag
@@ -36,6 +36,5 @@ abbrev pub fence_node : Fence → List LineText → Node
 fence_node fence later =
     Element (tag.CodeBlock (Fenced fence.info)) (code_lines fence.indent (take (fenced fence later) later))
 
-abbrev pub fence_block : Option Fence → List LineText → Option Block
-fence_block (Some fence) later = Some (record { node = fence_node fence later; more = fence_more fence later })
-fence_block None later = None
+abbrev pub fence_block : Fence → List LineText → Block
+fence_block fence later = record { node = fence_node fence later; more = fence_more fence later }

@@ -5,10 +5,10 @@ use Rattle.md_tree.specs.declared.event.Tag.TheVariants as tag
 use Rattle.md_tree.specs.Tree.{Nodes, Empty, Leaf, Branch}
 use Rattle.md_lines.specs.Lines.{LineText, is_empty}
 use Rattle.md_rules.specs.declared.item.Marker.{Marker}
-use Rattle.md_rules.specs.Quotes.{first_alert, quoted, quotes, without_kind}
-use Rattle.md_rules.specs.Items.{item_column, item_line, item_lines, item_more, marker_of, task_of}
+use Rattle.md_rules.specs.Quotes.{first_alert, quoted, without_kind}
+use Rattle.md_rules.specs.Items.{item_column, item_line, item_lines, item_more, task_of}
 use Rattle.md_rules.specs.Lists.{is_loose, list_more, next_item}
-use Rattle.md_events.specs.Node.{Block, Element, or_rule}
+use Rattle.md_events.specs.Node.{Block, Element}
 
 -- The lines of a container are read by a function that is given: of whether its paragraphs are runs of inlines, since it
 -- is an item of a tight list, and of the lines.
@@ -24,9 +24,6 @@ quote read line later =
       node = Element (tag.BlockQuote (first_alert (quoted (line ∷ later)))) (read false (inside_quote (quoted (line ∷ later))));
       more = length (quoted later);
     }
-
-abbrev pub quote_block : (Bool → List LineText → Nodes) → LineText → List LineText → Option Block
-quote_block read line later = if quotes line then Some (quote read line later) else None
 
 -- a task mark is the first inline of the paragraph that the nodes begin with, and else stands before them
 abbrev pub mark_then : Bool → Nodes → Nodes
@@ -69,14 +66,3 @@ list read marker line later =
       node = Element (tag.List marker.number) (items read (not (is_loose (take (list_lines marker line later) later))) marker.kind 0 (line ∷ later));
       more = list_lines marker line later;
     }
-
-abbrev pub list_at : (Bool → List LineText → Nodes) → Option Marker → LineText → List LineText → Option Block
-list_at read None line later = None
-list_at read (Some marker) line later = Some (list read marker line later)
-
-abbrev pub list_block : (Bool → List LineText → Nodes) → LineText → List LineText → Option Block
-list_block read line later = list_at read (marker_of line) line later
-
--- the container at a line that later lines follow, where one may stand
-abbrev pub container : Bool → (Bool → List LineText → Nodes) → LineText → List LineText → Option Block
-container nests read line later = if nests then or_rule (quote_block read line later) (list_block read line later) else None

@@ -15,14 +15,15 @@ pub use Rattle.md_rules.specs.Attributes
 pub use Rattle.md_rules.specs.Headings
 pub use Rattle.md_rules.specs.Code
 pub use Rattle.md_rules.specs.Fences
-pub use Rattle.md_rules.specs.Rules
+pub use Rattle.md_rules.specs.ThematicBreaks
 pub use Rattle.md_rules.specs.Quotes
 pub use Rattle.md_rules.specs.Items
-pub use Rattle.md_rules.specs.Lists
 pub use Rattle.md_rules.specs.Tables as LineTables
+pub use Rattle.md_rules.specs.Starts
+pub use Rattle.md_rules.specs.Lists
+pub use Rattle.md_rules.specs.Rows
 pub mod Node
 pub mod CodeBlocks
-pub mod LeafBlocks
 pub mod Containers
 pub mod Tables
 pub mod Blocks

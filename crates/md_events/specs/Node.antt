@@ -1,5 +1,5 @@
 -- What a rule for blocks answers.
-use Rattle.std.specs.Prelude.{ℕ, Bool, true, false, Option, None, Some, List}
+use Rattle.std.specs.Prelude.{ℕ, Bool, true, false, List}
 use Rattle.md_tree.specs.declared.event.Event.{Event}
 use Rattle.md_tree.specs.declared.event.Tag.{Tag}
 use Rattle.md_tree.specs.declared.event.Tag.TheVariants as tag
@@ -31,11 +31,6 @@ pub record Block : Type 0 where
 abbrev pub block_events : Bool → Block → List Event
 block_events tight block = events (node_then tight block.node Empty)
 
--- what a rule answers, or else what the next ones do
-abbrev pub or_rule : Option Block → Option Block → Option Block
-or_rule (Some block) others = Some block
-or_rule None others = others
-
-abbrev pub or_else : Option Block → Block → Block
-or_else (Some block) others = block
-or_else None others = others
+-- a block of one line
+abbrev pub one_line : Node → Block
+one_line node = record { node = node; more = 0 }

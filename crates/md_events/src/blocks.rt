@@ -1,23 +1,23 @@
 // Blocks: the lines of a document as events.
-ghost use Rattle.std.specs.Prelude.{◌≡◌, ◌++◌, ◌+◌, ◌<◌, ◌≤◌, Bool, Some, false, IfOk, IfSome, IsTrue, OnOk, length};
+ghost use Rattle.std.specs.Prelude.{◌≡◌, ◌++◌, ◌<◌, Some, false, IfOk, IsTrue, OnOk, length};
 ghost use Rattle.md_tree.specs.Tree.{Branch, Empty, events};
 ghost use Rattle.md_tree.specs.declared.event.Tag.TheVariants as tag;
 ghost use Rattle.md_rules.specs.Items.{marker_of};
 ghost use Rattle.md_events.specs.Node.{block_events};
 ghost use Rattle.md_events.specs.Containers.{in_item, items, with_task};
 ghost use Rattle.md_events.specs.Blocks.{blocks};
-ghost use Rattle.md_events.specs.Written.{begins_quote, first_block, first_container, first_list, first_marker, first_quote, lines_taken, nests, rule_events};
+ghost use Rattle.md_events.specs.Written.{begins_quote, first_block, first_list, first_marker, first_quote, nests};
 
-use crate::leaf_blocks::write_leaf_block;
-use crate::paragraph::write_paragraph;
+use crate::code_blocks::{write_code, write_fenced};
+use crate::heading::write_heading;
+use crate::paragraph::{empty_front, front_paragraph, paragraph_more, write_paragraph, write_run};
 use crate::tables::write_table;
-use crate::task_mark::into_paragraph;
 use md_lines::Line;
 use md_rules::{
-    Marker, first_alert, is_loose, item_lines, list_more, marker_of, next_item, quoted, quotes,
-    task_of, without_kind,
+    BlockStart, Items, Marker, block_start, first_alert, hanging, heading_at, is_loose, item_lines,
+    list_more, next_item, quoted, task_of, without_kind,
 };
-use md_tree::{Event, Tag, TagEnd};
+use md_tree::{CodeBlockKind, Event, Tag, TagEnd};
 use std::alloc::{AllocError, Global};
 
 /// Appends the events of the blocks of lines, in which containers may stand so many levels deep; in an item of a tight
@@ -37,13 +37,13 @@ pub(crate) fn write_blocks<'a>(
         if lines[at].is_empty() {
             at += 1;
         } else {
-            at += write_block(alloc, &lines[at..], levels, tight, out)?;
+            at += 1 + write_block(alloc, &lines[at..], levels, tight, out)?;
         }
     }
     Ok(())
 }
 
-/// Appends the events of the block at the first line, and tells how many lines it takes.
+/// Appends the events of the block at the first line, and tells how many lines it takes after it.
 #[cycle(blocks)]
 fn write_block<'a>(
     alloc: Global,
@@ -54,20 +54,35 @@ fn write_block<'a>(
 ) -> Result<usize, AllocError>
     requires { 0 < length lines.now }
     ensures written { OnOk result (out.new.items ≡ out.old.items ++ block_events tight (first_block levels lines.now)) }
-    ensures lines { IfOk result (λ n. n ≡ (first_block levels lines.now).more + 1) }
-    ensures within { IfOk result (λ n. n ≤ length lines.now) }
+    ensures lines { IfOk result (λ n. n ≡ (first_block levels lines.now).more) }
+    ensures within { IfOk result (λ n. n < length lines.now) }
 {
-    if let Some(count) = write_leaf_block(alloc, lines, out)? {
-        return Ok(count);
-    }
-    if let Some(count) = write_container(alloc, lines, levels, out)? {
-        return Ok(count);
-    }
     let nests = nests(levels);
-    if let Some(count) = write_table(alloc, lines, nests, out)? {
-        return Ok(count);
+    let (line, later) = (&lines[0], &lines[1..]);
+    match block_start(nests, Items::All, line, later) {
+        BlockStart::Code => {
+            let more = hanging(4, later);
+            write_code(alloc, CodeBlockKind::Indented, 4, &lines[..1 + more], out)?;
+            Ok(more)
+        }
+        BlockStart::Fence(fence) => write_fenced(alloc, fence, later, out),
+        BlockStart::ThematicBreak => {
+            out.push(Event::Rule)?;
+            Ok(0)
+        }
+        BlockStart::Heading(level) => {
+            write_heading(alloc, heading_at(alloc, level, line)?, out)?;
+            Ok(0)
+        }
+        BlockStart::Quote => write_quote(alloc, lines, levels - 1, out),
+        BlockStart::Item(marker) => write_list(alloc, marker, lines, levels - 1, out),
+        BlockStart::Table => write_table(alloc, line, later, nests, out),
+        BlockStart::Paragraph => {
+            let more = paragraph_more(nests, later);
+            write_run(alloc, tight, &lines[..1 + more], out)?;
+            Ok(more)
+        }
     }
-    write_paragraph(alloc, lines, nests, tight, out)
 }
 
 /// Whether containers may stand where so many levels are left.
@@ -77,35 +92,8 @@ fn nests(levels: usize) -> bool
     levels > 0
 }
 
-/// Appends the events of the container at the first line, and tells how many lines it takes, or `None` where none
-/// begins there.
-#[cycle(blocks)]
-fn write_container<'a>(
-    alloc: Global,
-    lines: &[Line<'a>],
-    levels: usize,
-    out: &mut Vec<Event<'a>>,
-) -> Result<Option<usize>, AllocError>
-    requires { 0 < length lines.now }
-    ensures written { OnOk result ((tight : Bool) → out.new.items ≡ out.old.items ++ rule_events tight (first_container levels lines.now)) }
-    ensures lines { IfOk result (λ count. count ≡ lines_taken (first_container levels lines.now)) }
-    ensures within { IfOk result (λ count. IfSome count (λ n. n ≤ length lines.now)) }
-{
-    if levels == 0 {
-        return Ok(None);
-    }
-    let line = &lines[0];
-    if quotes(line) {
-        return Ok(Some(write_quote(alloc, lines, levels - 1, out)?));
-    }
-    match marker_of(line) {
-        Some(marker) => Ok(Some(write_list(alloc, marker, lines, levels - 1, out)?)),
-        None => Ok(None),
-    }
-}
-
 /// Appends the events of the quote at the first line, in which containers may stand so many levels deep, and tells how
-/// many lines it takes.
+/// many lines it takes after it.
 #[cycle(blocks)]
 fn write_quote<'a>(
     alloc: Global,
@@ -115,8 +103,8 @@ fn write_quote<'a>(
 ) -> Result<usize, AllocError>
     requires { IsTrue (begins_quote lines.now) }
     ensures written { OnOk result (out.new.items ≡ out.old.items ++ block_events false (first_quote levels lines.now)) }
-    ensures lines { IfOk result (λ n. n ≡ (first_quote levels lines.now).more + 1) }
-    ensures within { IfOk result (λ n. n ≤ length lines.now) }
+    ensures lines { IfOk result (λ n. n ≡ (first_quote levels lines.now).more) }
+    ensures within { IfOk result (λ n. n < length lines.now) }
 {
     let inside = quoted(alloc, lines)?;
     let inside = inside.as_slice();
@@ -124,11 +112,11 @@ fn write_quote<'a>(
     out.push(Event::Start(Tag::BlockQuote(kind)))?;
     write_blocks(alloc, without_kind(kind, inside), levels, false, out)?;
     out.push(Event::End(TagEnd::BlockQuote(kind)))?;
-    Ok(inside.len())
+    Ok(inside.len() - 1)
 }
 
 /// Appends the events of the list that begins with an item of this marker at the first line, in whose items containers
-/// may stand so many levels deep, and tells how many lines it takes.
+/// may stand so many levels deep, and tells how many lines it takes after the first.
 #[cycle(blocks)]
 fn write_list<'a>(
     alloc: Global,
@@ -139,8 +127,8 @@ fn write_list<'a>(
 ) -> Result<usize, AllocError>
     requires { first_marker lines.now ≡ Some marker }
     ensures written { OnOk result (out.new.items ≡ out.old.items ++ block_events false (first_list levels marker lines.now)) }
-    ensures lines { IfOk result (λ n. n ≡ (first_list levels marker lines.now).more + 1) }
-    ensures within { IfOk result (λ n. n ≤ length lines.now) }
+    ensures lines { IfOk result (λ n. n ≡ (first_list levels marker lines.now).more) }
+    ensures within { IfOk result (λ n. n < length lines.now) }
 {
     let later = &lines[1..];
     let more = list_more(marker.kind, marker.item_more(&lines[0], later), later);
@@ -148,7 +136,7 @@ fn write_list<'a>(
     out.push(Event::Start(Tag::List(marker.number)))?;
     write_items(alloc, marker.kind, tight, lines, levels, out)?;
     out.push(Event::End(TagEnd::List(marker.number.is_some())))?;
-    Ok(1 + more)
+    Ok(more)
 }
 
 /// Appends the events of the items of this kind that the lines begin with, in which containers may stand so many levels
@@ -228,11 +216,15 @@ fn write_item_blocks<'a>(
     let Some(done) = task else {
         return write_blocks(alloc, lines, levels, tight, out);
     };
-    let mark = out.as_slice().len();
-    out.push(Event::TaskListMarker(done))?;
-    write_blocks(alloc, lines, levels, tight, out)?;
-    if !tight {
-        into_paragraph(mark, out);
+    let blocks = &lines[empty_front(lines)..];
+    match front_paragraph(tight, nests(levels), blocks) {
+        Some(count) => {
+            write_paragraph(alloc, Some(done), &blocks[..count], out)?;
+            write_blocks(alloc, &blocks[count..], levels, tight, out)
+        }
+        None => {
+            out.push(Event::TaskListMarker(done))?;
+            write_blocks(alloc, blocks, levels, tight, out)
+        }
     }
-    Ok(())
 }

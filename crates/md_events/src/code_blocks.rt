@@ -1,33 +1,17 @@
 // Blocks of code.
-ghost use Rattle.std.specs.Prelude.{◌≡◌, ◌++◌, ◌+◌, ◌<◌, ◌≤◌, IfOk, OnOk, length, false};
+ghost use Rattle.std.specs.Prelude.{◌≡◌, ◌++◌, ◌≤◌, IfOk, OnOk, length, false};
 ghost use Rattle.md_tree.specs.Tree.{Empty, events};
-ghost use Rattle.md_events.specs.Node.{Element, block_events, node_then};
+ghost use Rattle.md_events.specs.Node.{Element, node_then};
 ghost use Rattle.md_events.specs.CodeBlocks.{code_line, code_lines};
-ghost use Rattle.md_events.specs.Written.{fence_events, first_indented};
+ghost use Rattle.md_events.specs.Written.{fence_events};
 ghost use Rattle.md_rules.specs.Fences.{fence_more};
 ghost use Rattle.md_tree.specs.declared.event.Tag.TheVariants as tag;
 
 use md_lines::Line;
-use md_rules::{Fence, hanging, text_from};
+use md_rules::{Fence, text_from};
 use md_tree::{CodeBlockKind, Event, Tag, TagEnd};
 use std::alloc::{AllocError, Global};
 use term_text::CowStr;
-
-/// Appends the events of the code at the first line by its indent, and tells how many lines it takes.
-pub(crate) fn write_indented<'a>(
-    alloc: Global,
-    lines: &[Line<'a>],
-    out: &mut Vec<Event<'a>>,
-) -> Result<usize, AllocError>
-    requires { 0 < length lines.now }
-    ensures written { OnOk result (out.new.items ≡ out.old.items ++ block_events false (first_indented lines.now)) }
-    ensures lines { IfOk result (λ n. n ≡ (first_indented lines.now).more + 1) }
-    ensures within { IfOk result (λ n. n ≤ length lines.now) }
-{
-    let count = 1 + hanging(4, &lines[1..]);
-    write_code(alloc, CodeBlockKind::Indented, 4, &lines[..count], out)?;
-    Ok(count)
-}
 
 /// Appends the events of the code behind a fence, and tells how many of the lines it takes.
 pub(crate) fn write_fenced<'a>(
@@ -38,6 +22,7 @@ pub(crate) fn write_fenced<'a>(
 ) -> Result<usize, AllocError>
     ensures written { OnOk result (out.new.items ≡ out.old.items ++ fence_events fence.entry lines.now) }
     ensures lines { IfOk result (λ n. n ≡ fence_more fence.entry lines.now) }
+    ensures within { IfOk result (λ n. n ≤ length lines.now) }
 {
     let content = fence.content(lines);
     let column = fence.indent;
@@ -52,7 +37,7 @@ pub(crate) fn write_fenced<'a>(
 }
 
 /// Appends the events of a code block with these lines, which lose so many columns.
-fn write_code<'a>(
+pub(crate) fn write_code<'a>(
     alloc: Global,
     kind: CodeBlockKind<'a>,
     column: u128,

@@ -4,12 +4,11 @@
 mod blocks;
 mod code_blocks;
 mod forms;
+mod heading;
 pub mod laws;
-mod leaf_blocks;
 mod paragraph;
 mod reader;
 mod tables;
-mod task_mark;
 
 pub use forms::built;
 pub use md_tree::{

@@ -1,43 +1,39 @@
 // Tables: a head and rows of cells.
-ghost use Rattle.std.specs.Prelude.{◌≡◌, ◌++◌, ◌<◌, ◌≤◌, Bool, IfOk, IfSome, IsTrue, OnOk, [], ◌∷◌, length};
+ghost use Rattle.std.specs.Prelude.{◌≡◌, ◌++◌, ◌≤◌, IfOk, IsTrue, OnOk, [], ◌∷◌, false, length};
 ghost use Rattle.term_text.specs.LineEnds.{is_one_line};
 ghost use Rattle.md_tree.specs.Tree.{Branch, Empty, events};
 ghost use Rattle.md_tree.specs.declared.event.Tag.TheVariants as tag;
 ghost use Rattle.md_inline.specs.Inlines.{inlines};
-ghost use Rattle.md_rules.specs.Tables.{cells};
-ghost use Rattle.md_events.specs.Tables.{cell_nodes, row_nodes};
-ghost use Rattle.md_events.specs.Written.{first_table, lines_taken, rule_events};
+ghost use Rattle.md_rules.specs.Tables.{cells, starts_table};
+ghost use Rattle.md_events.specs.Node.{block_events};
+ghost use Rattle.md_events.specs.Tables.{cell_nodes, row_nodes, table};
 
 use md_inline::write_inlines;
 use md_lines::Line;
-use md_rules::{Cells, alignments, row_count, starts_table};
+use md_rules::{Cells, alignments, row_count};
 use md_tree::{Event, Tag, TagEnd};
 use std::alloc::{AllocError, Global};
 
-/// Appends the events of the table at the first line, and tells how many lines it takes, or `None` where none begins
-/// there.
+/// Appends the events of the table that begins at a line, before these lines, and tells how many of them it takes.
 pub(crate) fn write_table<'a>(
     alloc: Global,
-    lines: &[Line<'a>],
+    line: &Line<'a>,
+    later: &[Line<'a>],
     nests: bool,
     out: &mut Vec<Event<'a>>,
-) -> Result<Option<usize>, AllocError>
-    requires { 0 < length lines.now }
-    ensures written { OnOk result ((tight : Bool) → out.new.items ≡ out.old.items ++ rule_events tight (first_table nests lines.now)) }
-    ensures lines { IfOk result (λ count. count ≡ lines_taken (first_table nests lines.now)) }
-    ensures within { IfOk result (λ count. IfSome count (λ n. n ≤ length lines.now)) }
+) -> Result<usize, AllocError>
+    requires { IsTrue (starts_table line.now later.now) }
+    ensures written { OnOk result (out.new.items ≡ out.old.items ++ block_events false (table nests line.now later.now)) }
+    ensures lines { IfOk result (λ n. n ≡ (table nests line.now later.now).more) }
+    ensures within { IfOk result (λ n. n ≤ length later.now) }
 {
-    let line = &lines[0];
-    if !starts_table(line, &lines[1..]) {
-        return Ok(None);
-    }
-    let later = &lines[2..];
-    let rows = row_count(nests, later);
-    out.push(Event::Start(Tag::Table(alignments(alloc, &lines[1])?)))?;
+    let behind = &later[1..];
+    let rows = row_count(nests, behind);
+    out.push(Event::Start(Tag::Table(alignments(alloc, &later[0])?)))?;
     write_head(alloc, line, out)?;
-    write_rows(alloc, &later[..rows], out)?;
+    write_rows(alloc, &behind[..rows], out)?;
     out.push(Event::End(TagEnd::Table))?;
-    Ok(Some(2 + rows))
+    Ok(1 + rows)
 }
 
 /// Appends the events of the head with the cells of this line.

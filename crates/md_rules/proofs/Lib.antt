@@ -4,7 +4,9 @@ pub mod OneLine
 pub mod BracedLemmas
 pub mod CodeLemmas
 pub mod ItemLemmas
+pub mod StartLemmas
+pub mod RuleLaws
 pub mod ListLemmas
 pub mod CellLemmas
-pub mod TableLemmas
+pub mod RowLemmas
 pub mod Filled

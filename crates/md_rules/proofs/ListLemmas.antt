@@ -5,7 +5,10 @@ use Rattle.std.proofs.Math.ListN.{drop_of_length-le}
 use Rattle.md_lines.specs.Lines.{LineText, is_empty}
 use Rattle.md_rules.specs.Code.{if_more}
 use Rattle.md_rules.specs.Items.{item_more, marker_of}
-use Rattle.md_rules.specs.Lists.{is_before_list, list_more, next_item, of_kind, with_item}
+use Rattle.md_rules.specs.Lists.{list_more, marker_at, next_item, of_kind, with_item}
+use Rattle.md_rules.specs.Starts.{block_start}
+use Rattle.md_rules.specs.declared.start.Items.TheVariants.{All}
+use Rattle.md_rules.proofs.StartLemmas.{start-item}
 use Rattle.md_rules.specs.declared.item.Marker.{Marker}
 use Rattle.md_rules.proofs.Slices.{drop-drop}
 use Rattle.md_rules.proofs.CodeLemmas.{with_taken, with_taken-empty}
@@ -20,11 +23,7 @@ of_kind-marker kind (Some x) m h = go (x.kind == kind) h
 
 -- an item of a list is an item
 pub next_item-marker : (kind : ℕ) (line : LineText) (m : Marker) → next_item kind line ≡ Some m → marker_of line ≡ Some m
-next_item-marker kind line m h = go (is_before_list line) h
-  where
-    go : (v : Bool) → cond v None (of_kind kind (marker_of line)) ≡ Some m → marker_of line ≡ Some m
-    go true h = cc
-    go false h = of_kind-marker kind (marker_of line) m h
+next_item-marker kind line m h = start-item true All line [] m (of_kind-marker kind (marker_at (block_start true All line [])) m h)
 
 -- the lines of the item before come first
 pub list_more-skip : (kind n : ℕ) (lines : List LineText) → n ≤ length lines → list_more kind n lines ≡ n + list_more kind 0 (drop n lines)

@@ -68,10 +68,6 @@ heading_text body = trimmed (drop (hashes body) body)
 abbrev pub heading_with : HeadingLevel → List ℕ → Heading
 heading_with level text = heading_braced level text (braced text)
 
-abbrev pub heading_at : LineText → Option HeadingLevel → Option Heading
-heading_at line (Some level) = Some (heading_with level (heading_text line.body))
-heading_at line None = None
-
--- a heading, with its attributes and its content
-abbrev pub heading_of : LineText → Option Heading
-heading_of line = heading_at line (heading_level line)
+-- the heading of this level that a line is, with its attributes and its content
+abbrev pub heading_at : HeadingLevel → LineText → Heading
+heading_at level line = heading_with level (heading_text line.body)

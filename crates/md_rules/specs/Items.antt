@@ -87,9 +87,5 @@ abbrev pub is_first_number : Option ℕ → Bool
 is_first_number None = true
 is_first_number (Some n) = n == 1
 
-abbrev pub marker_interrupts : LineText → Option Marker → Bool
-marker_interrupts line None = false
-marker_interrupts line (Some marker) = not (is_empty (item_line marker line)) && is_first_number marker.number
-
-abbrev pub item_interrupts : LineText → Bool
-item_interrupts line = marker_interrupts line (marker_of line)
+abbrev pub may_interrupt : LineText → Marker → Bool
+may_interrupt line marker = not (is_empty (item_line marker line)) && is_first_number marker.number

@@ -4,9 +4,12 @@ pub mod Attributes
 pub mod Headings
 pub mod Code
 pub mod Fences
-pub mod Rules
+pub mod ThematicBreaks
 pub mod Quotes
 pub mod Items
-pub mod Lists
 pub mod Tables
+pub mod Starts
+pub mod Holds
+pub mod Lists
+pub mod Rows
 pub mod Cells

@@ -1,30 +1,27 @@
 -- Lists: items of one kind.
-use Rattle.std.specs.Prelude.{ℕ, zero, suc, ◌==◌, Bool, ◌||◌, is_some, Option, None, Some, List, [], ◌∷◌, if◌then◌else◌}
+use Rattle.std.specs.Prelude.{ℕ, zero, suc, ◌==◌, Bool, true, Option, None, Some, List, [], ◌∷◌, if◌then◌else◌}
 use Rattle.std.specs.List.{list_any}
 use Rattle.md_lines.specs.Lines.{LineText, is_empty}
-use Rattle.md_rules.specs.Code.{if_more, is_code}
-use Rattle.md_rules.specs.Fences.{fence_of}
-use Rattle.md_rules.specs.Rules.{is_rule}
-use Rattle.md_rules.specs.Headings.{heading_level}
-use Rattle.md_rules.specs.Quotes.{quotes}
-use Rattle.md_rules.specs.Items.{item_more, marker_of}
+use Rattle.md_rules.specs.Code.{if_more}
+use Rattle.md_rules.specs.Items.{item_more}
+use Rattle.md_rules.specs.Starts.{block_start}
+use Rattle.md_rules.specs.declared.start.BlockStart.{BlockStart}
+use Rattle.md_rules.specs.declared.start.BlockStart.TheVariants as start
+use Rattle.md_rules.specs.declared.start.Items.TheVariants.{All}
 use Rattle.md_rules.specs.declared.item.Marker.{Marker}
 
--- a fence, a rule or a heading
-abbrev pub begins_leaf : LineText → Bool
-begins_leaf line = is_some (fence_of line) || is_rule line || is_some (heading_level line)
-
--- one of the rules holds that are asked before that for lists
-abbrev pub is_before_list : LineText → Bool
-is_before_list line = is_code line || begins_leaf line || quotes line
+-- the marker of the item that begins
+abbrev pub marker_at : BlockStart → Option Marker
+marker_at (start.Item marker) = Some marker
+marker_at _ = None
 
 abbrev pub of_kind : ℕ → Option Marker → Option Marker
 of_kind kind None = None
 of_kind kind (Some marker) = if marker.kind == kind then Some marker else None
 
--- the marker of the next item of a list of this kind
+-- the marker of the next item of a list of this kind; no other block begins there
 abbrev pub next_item : ℕ → LineText → Option Marker
-next_item kind line = if is_before_list line then None else of_kind kind (marker_of line)
+next_item kind line = of_kind kind (marker_at (block_start true All line []))
 
 -- an item is taken with the further lines of the list
 abbrev pub with_item : Option Marker → (Marker → ℕ) → ℕ

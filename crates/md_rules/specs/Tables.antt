@@ -1,5 +1,5 @@
 -- Tables: rows of cells between bars.
-use Rattle.std.specs.Prelude.{ℕ, suc, ◌==◌, Bool, true, false, not, ◌&&◌, ◌||◌, is_some, List, [], ◌∷◌, drop, length, map, if◌then◌else◌}
+use Rattle.std.specs.Prelude.{ℕ, ◌==◌, Bool, true, false, not, ◌&&◌, ◌||◌, List, [], ◌∷◌, drop, length, map, if◌then◌else◌}
 use Rattle.std.specs.List.{list_all, prefix_len}
 use Rattle.term_text.specs.LineEnds.{in_front}
 use Rattle.term_text.specs.declared.alignment.Alignment.{Alignment}
@@ -7,9 +7,6 @@ use Rattle.term_text.specs.declared.alignment.Alignment.TheVariants as align
 use Rattle.md_lines.specs.Lines.{LineText, is_nothing}
 use Rattle.md_rules.specs.Shallow.{is_shallow}
 use Rattle.md_rules.specs.Texts.{begins_with, trimmed}
-use Rattle.md_rules.specs.Items.{marker_of}
-use Rattle.md_rules.specs.Lists.{begins_leaf}
-use Rattle.md_rules.specs.Quotes.{quotes}
 
 -- ---- cells
 
@@ -94,12 +91,3 @@ begins_table line next =
 abbrev pub starts_table : LineText → List LineText → Bool
 starts_table line [] = false
 starts_table line (next ∷ later) = begins_table line next
-
--- a row goes on with a table: no other block begins there, where containers may stand or not
-abbrev pub is_row : Bool → LineText → Bool
-is_row nests line = has_cells line && not (begins_leaf line || (nests && (quotes line || is_some (marker_of line))))
-
--- how many rows the lines begin with
-unfoldable pub row_count : Bool → List LineText → ℕ
-row_count nests [] = 0
-row_count nests (line ∷ lines) = if is_row nests line then suc (row_count nests lines) else 0

@@ -2,7 +2,7 @@
 ghost use Rattle.std.specs.Prelude.{◌≡◌, ◌≤◌, length, IfOk, IsTrue};
 ghost use Rattle.std.specs.List.{suffix_len};
 ghost use Rattle.term_text.specs.LineEnds.{is_one_line};
-ghost use Rattle.md_rules.specs.Headings.{content_of, ends_blank, heading_level, heading_of, with_content, heading_text, heading_with, is_hash, level_by, without_closing, without_hashes};
+ghost use Rattle.md_rules.specs.Headings.{content_of, ends_blank, heading_at, heading_level, with_content, heading_text, heading_with, is_hash, level_by, without_closing, without_hashes};
 
 use crate::attributes::{Attributes, attributes_in, braced};
 use crate::shallow::is_shallow;
@@ -38,7 +38,7 @@ fn level_by(hashes: usize) -> Option<HeadingLevel>
 }
 
 /// The level of the heading that the line is, or `None` where it is none.
-pub fn heading_level(line: &Line) -> Option<HeadingLevel>
+pub(crate) fn heading_level(line: &Line) -> Option<HeadingLevel>
     ensures { result ≡ heading_level line.now }
 {
     let body = line.body;
@@ -131,13 +131,13 @@ fn heading_with<'a>(
     Ok(with_content(level, Attributes::new(alloc), text))
 }
 
-/// The heading that the line is, with its attributes and its content, or `None` where it is none.
-pub fn heading_of<'a>(alloc: Global, line: &Line<'a>) -> Result<Option<Heading<'a>>, AllocError>
-    ensures { IfOk result (λ h. h ≡ heading_of line.now) }
+/// The heading of this level that the line is, with its attributes and its content.
+pub fn heading_at<'a>(
+    alloc: Global,
+    level: HeadingLevel,
+    line: &Line<'a>,
+) -> Result<Heading<'a>, AllocError>
+    ensures { IfOk result (λ h. h ≡ heading_at level line.now) }
 {
-    let Some(level) = heading_level(line) else {
-        return Ok(None);
-    };
-    let text = heading_text(line.body);
-    Ok(Some(heading_with(alloc, level, text)?))
+    heading_with(alloc, level, heading_text(line.body))
 }

@@ -5,7 +5,7 @@ ghost use Rattle.std.specs.Str.Parse.{digits_value};
 ghost use Rattle.term_text.specs.LineEnds.{is_one_line};
 ghost use Rattle.md_lines.specs.Lines.{line_of};
 ghost use Rattle.md_rules.specs.Quotes.{less};
-ghost use Rattle.md_rules.specs.Items.{digits, ends_number, has_number, is_bullet, is_first_number, is_task, item_column, item_interrupts, item_line, item_lines, item_more, marker_in, marker_interrupts, marker_of, numbered, task_by, task_of, without_task};
+ghost use Rattle.md_rules.specs.Items.{digits, ends_number, has_number, is_bullet, is_first_number, is_task, item_column, item_line, item_lines, item_more, marker_in, marker_of, may_interrupt, numbered, task_by, task_of, without_task};
 
 use crate::code::hanging;
 use crate::quote::less;
@@ -207,7 +207,7 @@ pub fn item_lines<'a>(
     Ok(lines)
 }
 
-/// Whether an item of this number may end a paragraph.
+/// Whether an item of this number ends a paragraph.
 fn is_first_number(number: Option<u64>) -> bool
     ensures { result ≡ is_first_number number }
 {
@@ -217,12 +217,10 @@ fn is_first_number(number: Option<u64>) -> bool
     }
 }
 
-/// Whether an item begins at the line that ends a paragraph.
-pub fn item_interrupts(line: &Line) -> bool
-    ensures { result ≡ item_interrupts line.now }
+/// Whether the item of this marker at the line ends a paragraph: it is not empty, and its number, if it has one, is 1.
+pub(crate) fn may_interrupt(line: &Line, marker: Marker) -> bool
+    requires { marker_of line.now ≡ Some marker }
+    ensures { result ≡ may_interrupt line.now marker }
 {
-    match marker_of(line) {
-        None => false,
-        Some(marker) => { !marker.item_line(line).is_empty() && is_first_number(marker.number) }
-    }
+    !marker.item_line(line).is_empty() && is_first_number(marker.number)
 }

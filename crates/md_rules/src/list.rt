@@ -1,38 +1,17 @@
 // Lists: items of one kind.
 ghost use Rattle.std.specs.Prelude.{◌≡◌, ◌≤◌, length};
-ghost use Rattle.md_rules.specs.Lists.{begins_leaf, is_before_list, is_loose, list_more, next_item};
+ghost use Rattle.md_rules.specs.Lists.{is_loose, list_more, next_item};
 
-use crate::code::is_code;
-use crate::fence::fence_of;
-use crate::heading::heading_level;
-use crate::item::{Marker, marker_of};
-use crate::quote::quotes;
-use crate::rule::is_rule;
+use crate::item::Marker;
+use crate::start::{BlockStart, Items, block_start};
 use md_lines::Line;
-
-/// Whether a fence, a rule or a heading begins at the line.
-pub fn begins_leaf(line: &Line) -> bool
-    ensures { result ≡ begins_leaf line.now }
-{
-    fence_of(line).is_some() || is_rule(line) || heading_level(line).is_some()
-}
-
-/// Whether one of the rules holds at the line that are asked before that for lists.
-fn is_before_list(line: &Line) -> bool
-    ensures { result ≡ is_before_list line.now }
-{
-    is_code(line) || begins_leaf(line) || quotes(line)
-}
 
 /// The marker of the next item of a list of this kind, or `None` where none begins at the line.
 pub fn next_item(kind: u8, line: &Line) -> Option<Marker>
     ensures { result ≡ next_item kind line.now }
 {
-    if is_before_list(line) {
-        return None;
-    }
-    match marker_of(line) {
-        Some(marker) if marker.kind == kind => Some(marker),
+    match block_start(true, Items::All, line, &[]) {
+        BlockStart::Item(marker) if marker.kind == kind => Some(marker),
         _ => None,
     }
 }

@@ -1,35 +1,41 @@
-// Rules: lines across the page.
-ghost use Rattle.std.specs.Prelude.{◌≡◌, ◌==◌, ◌||◌, count_by};
-ghost use Rattle.std.specs.List.{list_all};
-ghost use Rattle.md_lines.specs.Blanks.{is_blank};
-ghost use Rattle.md_rules.specs.Rules.{is_rule, is_rule_of};
+// The rules for blocks, in their order.
+ghost use Rattle.std.specs.Prelude.{◌≡◌};
+ghost use Rattle.md_rules.specs.Starts.{is_among, place};
 
-use crate::shallow::is_shallow;
-use md_lines::{Line, is_blank};
-
-/// Whether the body is at least three of this mark, with any blanks between and after.
-fn is_rule_of(mark: u8, body: &[u8]) -> bool
-    ensures { result ≡ is_rule_of mark body.now }
-{
-    are_marks(mark, body) && marks(mark, body) >= 3
+/// The rules for blocks. At a line the first that holds is taken, in this order.
+#[derive(Clone, Copy, Debug, PartialEq, Eq)]
+pub enum Rule {
+    Code,
+    Fence,
+    ThematicBreak,
+    Heading,
+    Quote,
+    Item,
+    Table,
+    Paragraph,
 }
 
-fn are_marks(mark: u8, body: &[u8]) -> bool
-    ensures { result ≡ list_all (λ b. b == mark || is_blank b) body.now }
-{
-    body.iter().all(|b| *b == mark || is_blank(*b))
-}
+impl Rule {
+    /// Its place in the order.
+    fn place(self) -> u8
+        ensures { result ≡ place self }
+    {
+        match self {
+            Rule::Code => 0,
+            Rule::Fence => 1,
+            Rule::ThematicBreak => 2,
+            Rule::Heading => 3,
+            Rule::Quote => 4,
+            Rule::Item => 5,
+            Rule::Table => 6,
+            Rule::Paragraph => 7,
+        }
+    }
 
-fn marks(mark: u8, body: &[u8]) -> usize
-    ensures { result ≡ count_by (λ b. b == mark) body.now }
-{
-    body.iter().filter(|b| **b == mark).count()
-}
-
-/// Whether the line is a rule of `-`, `*` or `_`.
-pub fn is_rule(line: &Line) -> bool
-    ensures { result ≡ is_rule line.now }
-{
-    let body = line.body.as_bytes();
-    is_shallow(line) && (is_rule_of(b'-', body) || is_rule_of(b'*', body) || is_rule_of(b'_', body))
+    /// Whether it is one of the rules from the one to the other.
+    pub(crate) fn is_among(self, first: Rule, last: Rule) -> bool
+        ensures { result ≡ is_among first last self }
+    {
+        first.place() <= self.place() && self.place() <= last.place()
+    }
 }

@@ -1,18 +1,15 @@
 // Tables: rows of cells between bars.
-ghost use Rattle.std.specs.Prelude.{◌≡◌, ◌==◌, ◌≤◌, ◌&&◌, length};
+ghost use Rattle.std.specs.Prelude.{◌≡◌, ◌==◌, ◌&&◌, length};
 ghost use Rattle.std.specs.List.{list_all};
-ghost use Rattle.md_rules.specs.Tables.{begins_table, has_cells, is_delimiter, is_row, row_count, starts_table};
+ghost use Rattle.md_rules.specs.Tables.{begins_table, has_cells, is_delimiter, starts_table};
 
 use crate::cell::{Cells, has_bar};
 use crate::delimiter::is_delimiter;
-use crate::item::marker_of;
-use crate::list::begins_leaf;
-use crate::quote::quotes;
 use crate::shallow::is_shallow;
 use md_lines::Line;
 
 /// Whether the line may be one of a table's.
-fn has_cells(line: &Line) -> bool
+pub(crate) fn has_cells(line: &Line) -> bool
     ensures { result ≡ has_cells line.now }
 {
     is_shallow(line) && has_bar(line.body.as_bytes())
@@ -42,20 +39,4 @@ pub fn starts_table(line: &Line, later: &[Line]) -> bool
     ensures { result ≡ starts_table line.now later.now }
 {
     !later.is_empty() && begins_table(line, &later[0])
-}
-
-/// Whether the line is a row that goes on with a table, where containers may stand or not.
-fn is_row(nests: bool, line: &Line) -> bool
-    ensures { result ≡ is_row nests line.now }
-{
-    has_cells(line)
-        && !(begins_leaf(line) || (nests && (quotes(line) || marker_of(line).is_some())))
-}
-
-/// How many rows of a table the lines begin with, where containers may stand or not.
-pub fn row_count(nests: bool, lines: &[Line]) -> usize
-    ensures value { result ≡ row_count nests lines.now }
-    ensures within { result ≤ length lines.now }
-{
-    lines.iter().take_while(|line| is_row(nests, line)).count()
 }

@@ -406,7 +406,7 @@ fn items_begin_with_task_marks(rt: HostRuntime) -> Result<(), Fail> {
 }
 
 #[test]
-fn rules_have_three_marks(rt: HostRuntime) -> Result<(), Fail> {
+fn thematic_breaks_have_three_marks(rt: HostRuntime) -> Result<(), Fail> {
     let rows = [
         ("a\n---", "<p>(a)</p><rule>"),
         (" * * *\n_____", "<rule><rule>"),

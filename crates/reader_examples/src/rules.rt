@@ -1,8 +1,8 @@
 //! The tests of the block rules on lines.
 use md_lines::{Line, line_of, lines_of};
 use md_rules::{
-    Cells, alignments, heading_of, item_lines, marker_of, quoted, row_count, starts_table,
-    text_from,
+    BlockStart, Cells, Items, Rule, alignments, block_start, heading_at, interrupts, item_lines,
+    marker_of, quoted, row_count, starts_table, text_from,
 };
 use std::alloc::{AllocError, Global};
 use std::test::Fail;
@@ -22,7 +22,9 @@ fn shown(alloc: Global, lines: &[Line]) -> Result<String, AllocError> {
 #[test]
 fn a_heading_has_attributes_and_content(rt: HostRuntime) -> Result<(), Fail> {
     let mut words = String::new(rt.alloc());
-    if let Some(heading) = heading_of(rt.alloc(), &line_of("## a b ## {#i .c}"))? {
+    let line = line_of("## a b ## {#i .c}");
+    if let BlockStart::Heading(level) = block_start(true, Items::All, &line, &[]) {
+        let heading = heading_at(rt.alloc(), level, &line)?;
         let content = heading.content.body;
         write!(words, "{content}|")?;
         for class in heading.classes.as_slice() {
@@ -48,6 +50,53 @@ fn containers_take_off_marks_and_columns(rt: HostRuntime) -> Result<(), Fail> {
     }
     assert_eq!(rt; words.as_str(), "0:d|2:e|");
     assert_eq!(rt; text_from(rt.alloc(), 1, &line_of("   a"))?.as_str(), "  a");
+    Ok(())
+}
+
+#[test]
+fn a_line_begins_by_the_first_rule_that_holds(rt: HostRuntime) -> Result<(), Fail> {
+    let rows = [
+        ("    # a", true, Rule::Code),
+        ("``` | a\n-|-", true, Rule::Fence),
+        ("* * *", true, Rule::ThematicBreak),
+        ("# a | b\n-|-", true, Rule::Heading),
+        ("> - a", true, Rule::Quote),
+        ("> - a", false, Rule::Paragraph),
+        ("2. a | b\n-|-", true, Rule::Item),
+        ("2. a | b\n-|-", false, Rule::Table),
+        ("a", true, Rule::Paragraph),
+    ];
+    for (text, nests, rule) in rows {
+        let lines = lines_of(rt.alloc(), text)?;
+        let (line, later) = lines.as_slice().split_first().expect(&rt, text);
+        assert_eq!(rt;
+            block_start(nests, Items::All, line, later).rule(),
+            rule,
+            "{text}"
+        );
+    }
+    Ok(())
+}
+
+#[test]
+fn some_blocks_end_a_paragraph(rt: HostRuntime) -> Result<(), Fail> {
+    let rows = [
+        ("```", true, true),
+        ("---", true, true),
+        ("# a", true, true),
+        ("> a", true, true),
+        ("> a", false, false),
+        ("1. a", true, true),
+        ("2. a", true, false),
+        ("-", true, false),
+        ("2. a | b\n-|-", true, true),
+        ("    a", true, false),
+    ];
+    for (text, nests, ends) in rows {
+        let lines = lines_of(rt.alloc(), text)?;
+        let (line, later) = lines.as_slice().split_first().expect(&rt, text);
+        assert_eq!(rt; interrupts(nests, line, later), ends, "{text}");
+    }
     Ok(())
 }
 

@@ -1,5 +1,12 @@
-use Rattle.std.proofs.Common.{rules, not, false, ◌≡◌, ◌++◌, ◌+◌, ◌-◌, ◌∷◌, [], length, take, drop, ap, subst, ◌∙◌, arith, refl, List, ℕ, sym}
-use Rattle.md_lines.specs.Lines.{LineText, is_empty}
+use Rattle.std.proofs.Common.{rules, not, false, ◌<◌, map, Some, None, ◌≡◌, ◌++◌, ◌+◌, ◌-◌, ◌∷◌, [], length, take, drop, ap, subst, ◌∙◌, arith, refl, List, ℕ, sym}
+use Rattle.md_lines.specs.Lines.{LineText, body_of, is_empty}
+use Rattle.md_inline.specs.Inlines.{inlines}
+use Rattle.md_tree.specs.declared.event.CodeBlockKind.TheVariants.{Indented}
+use Rattle.md_rules.specs.declared.start.BlockStart.TheVariants as start
+use Rattle.md_rules.specs.declared.start.Items.TheVariants.{All}
+use Rattle.md_rules.specs.Code.{hanging}
+use Rattle.md_rules.proofs.StartLemmas.{start-table}
+use Rattle.md_events.specs.CodeBlocks.{code_lines}
 use Rattle.std.specs.Result.{IfOk, OnOk}
 use Rattle.md_tree.specs.declared.event.Event.{Event}
 use Rattle.md_tree.specs.declared.event.Event.TheVariants.{End}
@@ -8,83 +15,113 @@ use Rattle.md_tree.specs.declared.event.TagEnd.TheVariants as end
 use Rattle.md_tree.specs.Tree.{Branch, Empty, events}
 use Rattle.md_rules.specs.Items.{item_more}
 use Rattle.md_rules.specs.Lists.{list_more, next_item}
-use Rattle.md_events.specs.Node.{Block, block_events}
+use Rattle.md_events.specs.Node.{block_events, run_then}
 use Rattle.md_events.specs.Containers.{in_item, items, with_task}
-use Rattle.md_events.specs.Blocks.{blocks}
-use Rattle.md_events.specs.Written.{first_container, first_leaf, first_paragraph, first_table, lines_taken, rule_events}
+use Rattle.md_events.specs.Blocks.{blocks, paragraph_more}
+use Rattle.md_events.specs.Written.{empty_front, front_paragraph, nests}
 use Rattle.md_rules.proofs.ListLemmas.{next_item-marker}
 use Rattle.md_rules.proofs.Slices.{length-slice, slice-rest}
 use Rattle.md_events.proofs.ContainerSteps.{first_marker-some, item-turn, item-written, items-empty-turn, items-end, items-stop, list-written, quote-lines, quote-within, quote-written}
-use Rattle.md_events.proofs.TaskSteps.{task-written}
+use Rattle.md_events.proofs.TaskSteps.{mark-first, marked-blocks}
 use Rattle.md_events.proofs.Steps.{block-turn, blocks-end, empty-turn}
-use Rattle.md_events.proofs.RuleSteps.{container-some, leaf-some, nothing-written, paragraph-last, table-some}
+use Rattle.md_events.proofs.RuleSteps.{block-is, from-first, less-one, list-events, list-is, own-lines, quote-events, quote-is}
 use Rattle.md_events.proofs.blocks.+blocks.Goals as goal
 
-pub write_block-returns-in-Some-clause-written : goal.write_block-returns-in-Some-clause-written
-write_block-returns-in-Some-clause-written t c =
-    let taken = sym c.in-Some.is ∙ c.in_ok-count.ensures.lines in
-    c.in_ok-count.ensures.written c.args.tight ∙ ap (λ x. c.args.out.now.items ++ x) (leaf-some c.args.levels c.args.tight c.args.lines.now c.in-Some.count taken).0
+pub write_block-overflow_sub-levels : goal.write_block-overflow_sub-levels
+write_block-overflow_sub-levels t c =
+    let first = from-first c.args.lines.now c.index-lines-0.result (take (length c.args.lines.now - 1) (drop 1 c.args.lines.now)) c.requires c.index-lines-0.is (slice-rest 1 c.args.lines.now) in
+    (quote-is c.args.levels c.args.lines.now c.index-lines-0.result (take (length c.args.lines.now - 1) (drop 1 c.args.lines.now)) c.nests-nests.result first c.nests-nests.ensures (sym c.block_start.ensures ∙ c.in-Quote.is)).2
 
-pub write_block-returns-in-Some-clause-lines : goal.write_block-returns-in-Some-clause-lines
-write_block-returns-in-Some-clause-lines t c =
-    (leaf-some c.args.levels c.args.tight c.args.lines.now c.in-Some.count (sym c.in-Some.is ∙ c.in_ok-count.ensures.lines)).1
+pub write_block-write_quote-requires : goal.write_block-write_quote-requires
+write_block-write_quote-requires t c =
+    let first = from-first c.args.lines.now c.index-lines-0.result (take (length c.args.lines.now - 1) (drop 1 c.args.lines.now)) c.requires c.index-lines-0.is (slice-rest 1 c.args.lines.now) in
+    let found = quote-is c.args.levels c.args.lines.now c.index-lines-0.result (take (length c.args.lines.now - 1) (drop 1 c.args.lines.now)) c.nests-nests.result first c.nests-nests.ensures (sym c.block_start.ensures ∙ c.in-Quote.is) in
+    let some : 0 < c.args.levels = found.2 in
+    (omega (arith, some), found.0)
 
-pub write_block-returns-in-Some-2-clause-written : goal.write_block-returns-in-Some-2-clause-written
-write_block-returns-in-Some-2-clause-written t c =
+pub write_block-overflow_sub-levels-in-Item : goal.write_block-overflow_sub-levels-in-Item
+write_block-overflow_sub-levels-in-Item t c =
+    let first = from-first c.args.lines.now c.index-lines-0.result (take (length c.args.lines.now - 1) (drop 1 c.args.lines.now)) c.requires c.index-lines-0.is (slice-rest 1 c.args.lines.now) in
+    (list-is c.args.levels c.args.lines.now c.index-lines-0.result (take (length c.args.lines.now - 1) (drop 1 c.args.lines.now)) c.nests-nests.result c.in-Item.marker first c.nests-nests.ensures (sym c.block_start.ensures ∙ c.in-Item.is)).2
+
+pub write_block-write_list-requires : goal.write_block-write_list-requires
+write_block-write_list-requires t c =
+    let first = from-first c.args.lines.now c.index-lines-0.result (take (length c.args.lines.now - 1) (drop 1 c.args.lines.now)) c.requires c.index-lines-0.is (slice-rest 1 c.args.lines.now) in
+    let found = list-is c.args.levels c.args.lines.now c.index-lines-0.result (take (length c.args.lines.now - 1) (drop 1 c.args.lines.now)) c.nests-nests.result c.in-Item.marker first c.nests-nests.ensures (sym c.block_start.ensures ∙ c.in-Item.is) in
+    let some : 0 < c.args.levels = found.2 in
+    (omega (arith, some), found.0)
+
+pub write_block-write_table-requires : goal.write_block-write_table-requires
+write_block-write_table-requires t c =
+    start-table c.nests-nests.result All c.index-lines-0.result (take (length c.args.lines.now - 1) (drop 1 c.args.lines.now)) (sym c.block_start.ensures ∙ c.in-Table.is)
+
+pub write_block-returns-in_ok-write_code-in-Code-clause-written : goal.write_block-returns-in_ok-write_code-in-Code-clause-written
+write_block-returns-in_ok-write_code-in-Code-clause-written t c =
     let lines : List LineText = c.args.lines.now in
-    let none = sym c.in_default.is ∙ c.in_ok-count.ensures.lines in
-    let taken = sym c.in-Some-2.is ∙ c.in_ok-count-2.ensures.lines in
-    c.in_ok-count-2.ensures.written c.args.tight
-    ∙ (ap (λ x. x ++ rule_events c.args.tight (first_container c.args.levels lines)) (nothing-written c.args.tight (first_leaf lines) _ _ none (c.in_ok-count.ensures.written c.args.tight))
-    ∙ ap (λ x. c.args.out.now.items ++ x) (container-some c.args.levels c.args.tight lines c.in-Some-2.count none taken).0)
+    let line : LineText = c.index-lines-0.result in
+    let later : List LineText = take (length lines - 1) (drop 1 lines) in
+    let first : lines ≡ line ∷ later = from-first c.args.lines.now c.index-lines-0.result (take (length c.args.lines.now - 1) (drop 1 c.args.lines.now)) c.requires c.index-lines-0.is (slice-rest 1 c.args.lines.now) in
+    let found = block-is c.args.levels lines line later c.nests-nests.result start.Code first c.nests-nests.ensures (sym c.block_start.ensures ∙ c.in-Code.is) in
+    c.in_ok-write_code-in-Code.ensures
+    ∙ (ap (λ ls. c.args.out.now.items ++ events (Branch (tag.CodeBlock Indented) (code_lines 4 ls) Empty)) (own-lines lines line later c.hanging-more.result (hanging 4 later) first c.hanging-more.ensures.value)
+    ∙ ap (λ b. c.args.out.now.items ++ block_events c.args.tight b) (sym found))
 
-pub write_block-returns-in-Some-2-clause-lines : goal.write_block-returns-in-Some-2-clause-lines
-write_block-returns-in-Some-2-clause-lines t c =
-    (container-some c.args.levels c.args.tight c.args.lines.now c.in-Some-2.count (sym c.in_default.is ∙ c.in_ok-count.ensures.lines) (sym c.in-Some-2.is ∙ c.in_ok-count-2.ensures.lines)).1
-
-pub write_block-returns-in-Some-3-clause-written : goal.write_block-returns-in-Some-3-clause-written
-write_block-returns-in-Some-3-clause-written t c =
+pub write_block-returns-in_ok-write_run-in-Paragraph-clause-written : goal.write_block-returns-in_ok-write_run-in-Paragraph-clause-written
+write_block-returns-in_ok-write_run-in-Paragraph-clause-written t c =
     let lines : List LineText = c.args.lines.now in
-    let not_leaf = sym c.in_default.is ∙ c.in_ok-count.ensures.lines in
-    let not_container = sym c.in_default-2.is ∙ c.in_ok-count-2.ensures.lines in
-    let same = ap (λ v. first_table v lines) c.nests-nests.ensures in
-    let taken = sym c.in-Some-3.is ∙ (c.in_ok-count-3.ensures.lines ∙ ap lines_taken same) in
-    let first = nothing-written c.args.tight (first_leaf lines) _ _ not_leaf (c.in_ok-count.ensures.written c.args.tight) in
-    let second = nothing-written c.args.tight (first_container c.args.levels lines) _ _ not_container (c.in_ok-count-2.ensures.written c.args.tight) in
-    c.in_ok-count-3.ensures.written c.args.tight
-    ∙ (ap (λ x. x ++ rule_events c.args.tight (first_table c.nests-nests.result lines)) (second ∙ first)
-    ∙ ap (λ x. c.args.out.now.items ++ x) (ap (rule_events c.args.tight) same ∙ (table-some c.args.levels c.args.tight lines c.in-Some-3.count not_leaf not_container taken).0))
+    let line : LineText = c.index-lines-0.result in
+    let later : List LineText = take (length lines - 1) (drop 1 lines) in
+    let first : lines ≡ line ∷ later = from-first c.args.lines.now c.index-lines-0.result (take (length c.args.lines.now - 1) (drop 1 c.args.lines.now)) c.requires c.index-lines-0.is (slice-rest 1 c.args.lines.now) in
+    let found = block-is c.args.levels lines line later c.nests-nests.result start.Paragraph first c.nests-nests.ensures (sym c.block_start.ensures ∙ c.in-Paragraph.is) in
+    let count = c.paragraph_more-more.ensures.value ∙ ap (λ v. paragraph_more v later) c.nests-nests.ensures in
+    c.in_ok-write_run-in-Paragraph.ensures
+    ∙ (ap (λ ls. c.args.out.now.items ++ events (run_then c.args.tight (inlines (map body_of ls)) Empty)) (own-lines lines line later c.paragraph_more-more.result (paragraph_more (nests c.args.levels) later) first count)
+    ∙ ap (λ b. c.args.out.now.items ++ block_events c.args.tight b) (sym found))
 
-pub write_block-returns-in-Some-3-clause-lines : goal.write_block-returns-in-Some-3-clause-lines
-write_block-returns-in-Some-3-clause-lines t c =
+pub write_block-returns-in-Quote-clause-written : goal.write_block-returns-in-Quote-clause-written
+write_block-returns-in-Quote-clause-written t c =
     let lines : List LineText = c.args.lines.now in
-    let not_leaf = sym c.in_default.is ∙ c.in_ok-count.ensures.lines in
-    let not_container = sym c.in_default-2.is ∙ c.in_ok-count-2.ensures.lines in
-    let taken = sym c.in-Some-3.is ∙ (c.in_ok-count-3.ensures.lines ∙ ap (λ v. lines_taken (first_table v lines)) c.nests-nests.ensures) in
-    (table-some c.args.levels c.args.tight lines c.in-Some-3.count not_leaf not_container taken).1
+    let first = from-first c.args.lines.now c.index-lines-0.result (take (length c.args.lines.now - 1) (drop 1 c.args.lines.now)) c.requires c.index-lines-0.is (slice-rest 1 c.args.lines.now) in
+    let found = (quote-is c.args.levels c.args.lines.now c.index-lines-0.result (take (length c.args.lines.now - 1) (drop 1 c.args.lines.now)) c.nests-nests.result first c.nests-nests.ensures (sym c.block_start.ensures ∙ c.in-Quote.is)).1 in
+    subst (λ (x : List Event). OnOk c.write_quote.result (c.write_quote.new.out.items ≡ c.args.out.now.items ++ x))
+    (quote-events (c.args.levels - 1) c.args.tight lines c.index-lines-0.result (take (length lines - 1) (drop 1 lines)) first ∙ ap (block_events c.args.tight) (sym found)) c.write_quote.ensures.written
 
-pub write_block-returns-clause-written : goal.write_block-returns-clause-written
-write_block-returns-clause-written t c =
+pub write_block-returns-in-Item-clause-written : goal.write_block-returns-in-Item-clause-written
+write_block-returns-in-Item-clause-written t c =
     let lines : List LineText = c.args.lines.now in
-    let not_leaf = sym c.in_default.is ∙ c.in_ok-count.ensures.lines in
-    let not_container = sym c.in_default-2.is ∙ c.in_ok-count-2.ensures.lines in
-    let not_table = sym c.in_default-3.is ∙ c.in_ok-count-3.ensures.lines in
-    let first = nothing-written c.args.tight (first_leaf lines) _ _ not_leaf (c.in_ok-count.ensures.written c.args.tight) in
-    let second = nothing-written c.args.tight (first_container c.args.levels lines) _ _ not_container (c.in_ok-count-2.ensures.written c.args.tight) in
-    let third = nothing-written c.args.tight (first_table c.nests-nests.result lines) _ _ not_table (c.in_ok-count-3.ensures.written c.args.tight) in
-    let block = ap (λ v. first_paragraph v lines) c.nests-nests.ensures ∙ paragraph-last c.args.levels lines not_leaf not_container (not_table ∙ ap (λ v. lines_taken (first_table v lines)) c.nests-nests.ensures) in
-    subst (λ (x : List Event). OnOk c.write_paragraph.result (c.write_paragraph.new.out.items ≡ x))
-    (ap (λ x. x ++ block_events c.args.tight (first_paragraph c.nests-nests.result lines)) (third ∙ (second ∙ first)) ∙ ap (λ b. c.args.out.now.items ++ block_events c.args.tight b) block)
-    c.write_paragraph.ensures.written
+    let first = from-first c.args.lines.now c.index-lines-0.result (take (length c.args.lines.now - 1) (drop 1 c.args.lines.now)) c.requires c.index-lines-0.is (slice-rest 1 c.args.lines.now) in
+    let found = (list-is c.args.levels c.args.lines.now c.index-lines-0.result (take (length c.args.lines.now - 1) (drop 1 c.args.lines.now)) c.nests-nests.result c.in-Item.marker first c.nests-nests.ensures (sym c.block_start.ensures ∙ c.in-Item.is)).1 in
+    subst (λ (x : List Event). OnOk c.write_list.result (c.write_list.new.out.items ≡ c.args.out.now.items ++ x))
+    (list-events (c.args.levels - 1) c.args.tight c.in-Item.marker lines c.index-lines-0.result (take (length lines - 1) (drop 1 lines)) first ∙ ap (block_events c.args.tight) (sym found)) c.write_list.ensures.written
 
-pub write_block-returns-clause-lines : goal.write_block-returns-clause-lines
-write_block-returns-clause-lines t c =
+pub write_item_blocks-returns-in_ok-write_paragraph-in-Some-front_paragraph : goal.write_item_blocks-returns-in_ok-write_paragraph-in-Some-front_paragraph
+write_item_blocks-returns-in_ok-write_paragraph-in-Some-front_paragraph t c =
     let lines : List LineText = c.args.lines.now in
-    let not_leaf = sym c.in_default.is ∙ c.in_ok-count.ensures.lines in
-    let not_container = sym c.in_default-2.is ∙ c.in_ok-count-2.ensures.lines in
-    let not_table = sym c.in_default-3.is ∙ (c.in_ok-count-3.ensures.lines ∙ ap (λ v. lines_taken (first_table v lines)) c.nests-nests.ensures) in
-    let block = ap (λ v. first_paragraph v lines) c.nests-nests.ensures ∙ paragraph-last c.args.levels lines not_leaf not_container not_table in
-    subst (λ (b : Block). IfOk c.write_paragraph.result (λ n. n ≡ b.more + 1)) block c.write_paragraph.ensures.lines
+    let k : ℕ = c.empty_front.result in
+    let front : List LineText = take (length lines - k) (drop k lines) in
+    let count : ℕ = c.in-Some-front_paragraph.count in
+    let rest : List LineText = take (length front - count) (drop count front) in
+    let at : front ≡ drop (empty_front lines) lines = slice-rest k lines ∙ ap (λ n. drop n lines) c.empty_front.ensures.value in
+    let found : front_paragraph c.args.tight (nests c.args.levels) front ≡ Some count = ap (λ v. front_paragraph c.args.tight v front) (sym c.nests.ensures) ∙ (sym c.front_paragraph.ensures.value ∙ c.in-Some-front_paragraph.is) in
+    subst (λ (x : List Event). OnOk c.write_blocks-in-Some-front_paragraph.result (c.write_blocks-in-Some-front_paragraph.new.out.items ≡ x))
+    (marked-blocks c.args.levels c.args.tight c.in-Some.done lines front rest count c.args.out.now.items c.write_paragraph.new.out.items at found (slice-rest count front) c.in_ok-write_paragraph-in-Some-front_paragraph.ensures
+    ∙ ap (λ x. c.args.out.now.items ++ events (with_task c.args.tight x (blocks c.args.levels c.args.tight lines))) (sym c.in-Some.is)) c.write_blocks-in-Some-front_paragraph.ensures
+
+pub write_item_blocks-returns-in_ok-push-in-None : goal.write_item_blocks-returns-in_ok-push-in-None
+write_item_blocks-returns-in_ok-push-in-None t c =
+    let lines : List LineText = c.args.lines.now in
+    let k : ℕ = c.empty_front.result in
+    let front : List LineText = take (length lines - k) (drop k lines) in
+    let at : front ≡ drop (empty_front lines) lines = slice-rest k lines ∙ ap (λ n. drop n lines) c.empty_front.ensures.value in
+    let found : front_paragraph c.args.tight (nests c.args.levels) front ≡ None = ap (λ v. front_paragraph c.args.tight v front) (sym c.nests.ensures) ∙ (sym c.front_paragraph.ensures.value ∙ c.in-None.is) in
+    subst (λ (x : List Event). OnOk c.write_blocks-in-None.result (c.write_blocks-in-None.new.out.items ≡ x))
+    (mark-first c.args.levels c.args.tight c.in-Some.done lines front c.args.out.now.items c.push.new.self.items at found c.in_ok-push-in-None.ensures.items
+    ∙ ap (λ x. c.args.out.now.items ++ events (with_task c.args.tight x (blocks c.args.levels c.args.tight lines))) (sym c.in-Some.is)) c.write_blocks-in-None.ensures
+
+pub write_quote-overflow_sub-result : goal.write_quote-overflow_sub-result
+write_quote-overflow_sub-result t c =
+    let count = quote-lines c.args.levels c.args.lines.now c.as_slice-inside.result.now c.requires (c.as_slice-inside.ensures.value ∙ c.in_ok-inside.ensures) in
+    omega (arith, count)
 
 pub write_blocks-loop-at-preserved-then-is_empty : goal.write_blocks-loop-at-preserved-then-is_empty
 write_blocks-loop-at-preserved-then-is_empty t c = (
@@ -111,12 +148,6 @@ write_item-returns t c =
     (c.in_ok-push-2.ensures.items
     ∙ ap (λ x. x ++ End end.Item ∷ [])
     (c.in_ok-write_item_blocks.ensures ∙ ap (λ x. x ++ events (with_task c.args.tight c.task_of-task.result (blocks c.args.levels c.args.tight c.as_slice.result.now))) c.in_ok-push.ensures.items))
-
-pub write_item_blocks-returns-then-not-tight : goal.write_item_blocks-returns-then-not-tight
-write_item_blocks-returns-then-not-tight t c =
-    task-written c.args.levels c.args.tight c.args.task c.args.lines.now c.in-Some.done (length c.as_slice-mark.result.now) c.args.out.now.items c.write_blocks-2.new.out.items _ c.if-not-tight.true c.in-Some.is
-    (ap length c.as_slice-mark.ensures.value)
-    (c.in_ok-write_blocks.ensures ∙ ap (λ x. x ++ events (blocks c.args.levels c.args.tight c.args.lines.now)) c.in_ok-push.ensures.items) c.into_paragraph.ensures
 
 pub write_items-loop-at-preserved-then-is_empty : goal.write_items-loop-at-preserved-then-is_empty
 write_items-loop-at-preserved-then-is_empty t c = (
@@ -175,7 +206,7 @@ write_quote-returns-clause-written t c =
     (c.in_ok-write_blocks.ensures ∙ ap (λ x. x ++ events (blocks c.args.levels false rest)) c.in_ok-push.ensures.items))
 
 pub write_quote-returns-clause-lines : goal.write_quote-returns-clause-lines
-write_quote-returns-clause-lines t c = quote-lines c.args.levels c.args.lines.now c.as_slice-inside.result.now c.requires (c.as_slice-inside.ensures.value ∙ c.in_ok-inside.ensures)
+write_quote-returns-clause-lines t c = let count = quote-lines c.args.levels c.args.lines.now c.as_slice-inside.result.now c.requires (c.as_slice-inside.ensures.value ∙ c.in_ok-inside.ensures) in less-one _ _ count
 
 pub write_quote-returns-clause-within : goal.write_quote-returns-clause-within
-write_quote-returns-clause-within t c = quote-within c.args.lines.now c.as_slice-inside.result.now (c.as_slice-inside.ensures.value ∙ c.in_ok-inside.ensures)
+write_quote-returns-clause-within t c = quote-within c.args.levels c.args.lines.now c.as_slice-inside.result.now c.requires (c.as_slice-inside.ensures.value ∙ c.in_ok-inside.ensures)

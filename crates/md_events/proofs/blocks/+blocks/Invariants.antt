@@ -4,9 +4,6 @@ use Rattle.md_events.specs.Containers.{items}
 use Rattle.md_events.specs.Blocks.{blocks}
 use Rattle.md_events.proofs.blocks.+blocks.Given as goal
 
-abbrev pub decreases-write_container : goal.decreases-write_container
-decreases-write_container l = 8 * l.levels
-
 abbrev pub decreases-write_block : goal.decreases-write_block
 decreases-write_block l = 8 * l.levels + 1
 

@@ -2,7 +2,7 @@
 use Rattle.std.proofs.Common.{List, [], ◌∷◌, ◌≡◌, ◌+◌, suc, refl, arith, true, false, Bool, cond}
 use Rattle.std.specs.List.{prefix_len}
 use Rattle.md_lines.specs.Lines.{LineText}
-use Rattle.md_rules.specs.Tables.{is_row, row_count}
+use Rattle.md_rules.specs.Rows.{is_row, row_count}
 
 pub row_count-prefix : (nests : Bool) (lines : List LineText) → row_count nests lines ≡ prefix_len (λ line. is_row nests line) lines
 unfolding row_count

@@ -5,7 +5,7 @@ use Rattle.md_tree.specs.declared.event.Tag.TheVariants.{Heading}
 use Rattle.md_tree.specs.declared.event.TagEnd.TheVariants as end
 use Rattle.md_inline.specs.Inlines.{inlines}
 use Rattle.md_events.proofs.Steps.{element-written}
-use Rattle.md_events.proofs.leaf_blocks.write_heading.Goals as goal
+use Rattle.md_events.proofs.heading.write_heading.Goals as goal
 
 pub returns : goal.returns
 returns c =

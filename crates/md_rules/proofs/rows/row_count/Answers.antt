@@ -3,9 +3,9 @@ use Rattle.std.proofs.lemmas.Iterator.{YieldsList-from_slice}
 use Rattle.std.proofs.lemmas.Iterator.Consumers.{count_from_yields_List}
 use Rattle.std.proofs.lemmas.Iterator.Search.{YieldsList-from_take_while}
 use Rattle.std.proofs.lemmas.List.Folds.{length-prefix_len}
-use Rattle.md_rules.specs.Tables.{is_row}
-use Rattle.md_rules.proofs.TableLemmas.{row_count-prefix}
-use Rattle.md_rules.proofs.table.row_count.Goals as goal
+use Rattle.md_rules.specs.Rows.{is_row}
+use Rattle.md_rules.proofs.RowLemmas.{row_count-prefix}
+use Rattle.md_rules.proofs.rows.row_count.Goals as goal
 
 pub returns-clause-value : goal.returns-clause-value
 returns-clause-value c =

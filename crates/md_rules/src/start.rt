@@ -1,0 +1,134 @@
+// What begins at a nonempty line.
+ghost use Rattle.std.specs.Prelude.{◌≡◌, Some};
+ghost use Rattle.md_rules.specs.Items.{marker_of};
+ghost use Rattle.md_rules.specs.Starts.{block_start, container_or, counted, counts, interrupts, item_start, rule_of, start_of_text};
+
+use crate::code::is_code;
+use crate::fence::{Fence, fence_of};
+use crate::heading::heading_level;
+use crate::item::{Marker, marker_of, may_interrupt};
+use crate::quote::quotes;
+use crate::rule::Rule;
+use crate::table::starts_table;
+use crate::thematic_break::is_thematic_break;
+use md_lines::Line;
+use md_tree::HeadingLevel;
+
+/// Which items count.
+#[derive(Clone, Copy, Debug, PartialEq, Eq)]
+pub enum Items {
+    /// All of them.
+    All,
+    /// Those at which a paragraph ends.
+    Interrupting,
+}
+
+/// What begins at a nonempty line: the first of the rules for blocks that holds there, with what it found.
+#[derive(Drop)]
+pub enum BlockStart<'a> {
+    /// Code by its indent.
+    Code,
+    /// Code behind this fence.
+    Fence(Fence<'a>),
+    ThematicBreak,
+    /// A heading of this level.
+    Heading(HeadingLevel),
+    Quote,
+    /// A list whose first item has this marker.
+    Item(Marker),
+    Table,
+    /// What no other rule takes.
+    Paragraph,
+}
+
+impl<'a> BlockStart<'a> {
+    /// The rule by which it begins.
+    pub fn rule(&self) -> Rule
+        ensures { result ≡ rule_of self.now }
+    {
+        match self {
+            BlockStart::Code => Rule::Code,
+            BlockStart::Fence(_) => Rule::Fence,
+            BlockStart::ThematicBreak => Rule::ThematicBreak,
+            BlockStart::Heading(_) => Rule::Heading,
+            BlockStart::Quote => Rule::Quote,
+            BlockStart::Item(_) => Rule::Item,
+            BlockStart::Table => Rule::Table,
+            BlockStart::Paragraph => Rule::Paragraph,
+        }
+    }
+}
+
+/// Whether the item of this marker at the line counts.
+fn counts(items: Items, line: &Line, marker: Marker) -> bool
+    requires { marker_of line.now ≡ Some marker }
+    ensures { result ≡ counts items line.now marker }
+{
+    match items {
+        Items::All => true,
+        Items::Interrupting => may_interrupt(line, marker),
+    }
+}
+
+/// The marker of the item that begins at the line, if it counts.
+fn item_start(items: Items, line: &Line) -> Option<Marker>
+    ensures { result ≡ item_start items line.now }
+{
+    match marker_of(line) {
+        Some(marker) if counts(items, line, marker) => Some(marker),
+        _ => None,
+    }
+}
+
+/// What begins at the line where no container does.
+fn start_of_text<'a>(line: &Line<'a>, later: &[Line<'a>]) -> BlockStart<'a>
+    ensures { result ≡ start_of_text line.now later.now }
+{
+    if starts_table(line, later) {
+        BlockStart::Table
+    } else {
+        BlockStart::Paragraph
+    }
+}
+
+/// What begins at the line, which these lines follow, where containers may stand or not.
+pub fn block_start<'a>(
+    nests: bool,
+    items: Items,
+    line: &Line<'a>,
+    later: &[Line<'a>],
+) -> BlockStart<'a>
+    ensures { result ≡ block_start nests items line.now later.now }
+{
+    if is_code(line) {
+        return BlockStart::Code;
+    }
+    if let Some(fence) = fence_of(line) {
+        return BlockStart::Fence(fence);
+    }
+    if is_thematic_break(line) {
+        return BlockStart::ThematicBreak;
+    }
+    if let Some(level) = heading_level(line) {
+        return BlockStart::Heading(level);
+    }
+    if !nests {
+        return start_of_text(line, later);
+    }
+    if quotes(line) {
+        return BlockStart::Quote;
+    }
+    match item_start(items, line) {
+        Some(marker) => BlockStart::Item(marker),
+        None => start_of_text(line, later),
+    }
+}
+
+/// Whether a paragraph ends at the line, which these lines follow, since another block begins there.
+pub fn interrupts(nests: bool, line: &Line, later: &[Line]) -> bool
+    ensures { result ≡ interrupts nests line.now later.now }
+{
+    block_start(nests, Items::Interrupting, line, later)
+        .rule()
+        .is_among(Rule::Fence, Rule::Table)
+}
