@@ -37,7 +37,7 @@ quote-lines n [] inner b e = absurd (false≢true b)
 quote-lines n (line ∷ later) inner b e =
     ap length (e ∙ ap (λ v. cond v (unquoted line ∷ quoted later) []) b) ∙ (omega arith)
 
-quoted-within : (lines : List LineText) → length (quoted lines) ≤ length lines
+pub quoted-within : (lines : List LineText) → length (quoted lines) ≤ length lines
 unfolding quoted
 quoted-within [] = omega arith
 quoted-within (line ∷ later) = go (quotes line) (quoted-within later)

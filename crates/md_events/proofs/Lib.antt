@@ -4,5 +4,6 @@ pub mod RuleSteps
 pub mod TableSteps
 pub mod TaskSteps
 pub mod ContainerSteps
+pub mod TakenLaws
 pub mod GoodPlaces
 pub mod GoodBlocks

@@ -27,5 +27,6 @@ pub mod CodeBlocks
 pub mod Containers
 pub mod Tables
 pub mod Blocks
+pub mod Taken
 pub mod Written
 pub mod Built
