@@ -448,7 +448,8 @@ fn tables_have_a_head_and_rows(rt: HostRuntime) -> Result<(), Fail> {
 #[test]
 fn some_forms_are_not_built(rt: HostRuntime) {
     assert!(rt; built("Hello, *world*! [a](b:c)\r\n---\n|1. > - :\r      \n\tc\n```"));
-    for text in ["a$", "<b", "![a", "[^a", "a: b", "a:\tb", "---", "---  \na"] {
+    assert!(rt; built("Note: this\n- a: b\n> 1. c:\td\nax : y x: z\r::\n:"));
+    for text in ["a$", "<b", "![a", "[^a", ": b", "a\n:\tb", "a\r> - 1) : b", "- [x] : b", "---", "---  \na"] {
         assert!(rt; !built(text));
     }
 }
