@@ -6,3 +6,4 @@ pub mod VisitedLemmas
 pub mod ShownLemmas
 pub mod BufferRowsLemmas
 pub mod CaptionLemmas
+pub mod RowIndexLemmas

@@ -20,3 +20,4 @@ pub mod BufferRowsIter
 pub mod Visited
 pub mod VisitedIter
 pub mod WidgetError
+pub mod RowIndex

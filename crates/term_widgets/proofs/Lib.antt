@@ -3,6 +3,8 @@ pub mod RowLemmas
 pub mod PageLemmas
 pub mod ThinnedLemmas
 pub mod CutsLemmas
+pub mod HalvingLemmas
+pub mod RowPlaceLemmas
 pub mod ViewLemmas
 pub mod AreaLemmas
 pub mod ChangeLemmas

@@ -1,5 +1,6 @@
 -- What is said of a list of lines, from what is said of each.
-use Rattle.std.proofs.Common.{◌≡◌, ℕ, zero, suc, ◌+◌, ◌<◌, ◌≤◌, Bool, true, false, nat_lt, ◌||◌, List, [], ◌∷◌, ◌++◌, length, take, drop, get_or, refl, sym, ap, ap₂, subst, ◌∙◌, arith, append_assoc, append-nil, length-append, drop-cons, add-one}
+use Rattle.std.proofs.Common.{◌≡◌, ℕ, zero, suc, ◌+◌, ◌<◌, ◌≤◌, Bool, true, false, nat_lt, ◌||◌, List, [], ◌∷◌, ◌++◌, length, take, drop, get_or, Option, Some, None, refl, sym, ap, ap₂, subst, ◌∙◌, arith, append_assoc, append-nil, length-append, drop-cons, add-one}
+use Rattle.std.specs.Prelude.{is_some, IfSome}
 use Rattle.std.proofs.lemmas.Bool.Decides.{nat_tests}
 use Rattle.std.proofs.lemmas.List.{take_more, take-append-drop}
 use Rattle.term_core.specs.Graph.{Grapheme, graphs}
@@ -131,3 +132,11 @@ module _ (w : ℕ) (lines : List LineView) (k : ℕ) (line : LineView) (lt : k <
         length-append (rows_of w (take k lines)) (wrap w (graphs line)),
         length-append (rows_of w (take (k + 1) lines)) (rows_of w (drop (k + 1) lines)),
       )
+
+-- a line that is lent from lines that fit
+pub lent_fits : {R : Type 0} (now : R → LineView) (o : Option R) (w k : ℕ) (lines : List LineView) → AllFit w lines
+    → is_some o ≡ nat_lt k (length lines) → IfSome o (λ x. now x ≡ get_or lines k (now x)) → IfSome o (λ x. NoneWider w (graphs (now x)))
+lent_fits now None w k lines fits some is = tt
+lent_fits now (Some x) w k lines fits some is =
+    let lt : k < length lines = grind (arith, nat_tests, some) in
+    (AllFit-next w lines k (now x) lt is (AllFit-drop w k lines fits)).0

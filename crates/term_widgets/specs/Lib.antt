@@ -8,6 +8,7 @@ pub use Rattle.term_core.specs.Rect
 pub use Rattle.term_core.specs.Caption
 pub use Rattle.term_core.specs.Paint
 pub mod Page
+pub mod RowPlace
 pub mod Cuts
 pub mod PageRows
 pub mod Block

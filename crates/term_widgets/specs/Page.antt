@@ -1,6 +1,6 @@
 -- What contracts see of a page, and the rows of its lines.
-use Rattle.std.specs.Prelude.{◌≡◌, ℕ, Bool, false, ◌||◌, nat_lt, List, [], ◌∷◌, ◌++◌}
-use Rattle.std.specs.List.{list_any}
+use Rattle.std.specs.Prelude.{◌≡◌, ℕ, Bool, false, ◌||◌, nat_lt, List, [], ◌∷◌, ◌++◌, length, map, take}
+use Rattle.std.specs.List.{list_any, sum}
 use Rattle.term_core.specs.Graph.{Grapheme, graphs}
 use Rattle.term_core.specs.Text.{LineView}
 use Rattle.term_core.specs.Wrap.{wrap}
@@ -19,6 +19,18 @@ rows_of w (line ∷ lines) = wrap w (graphs line) ++ rows_of w lines
 -- the rows of a page
 abbrev pub page_rows : PageView → List (List Grapheme)
 page_rows page = rows_of page.width page.lines
+
+-- how many rows each line has on a page of the width w
+abbrev pub row_counts : ℕ → List LineView → List ℕ
+row_counts w lines = map (λ line. length (wrap w (graphs line))) lines
+
+-- how many rows each line of a page has
+abbrev pub line_counts : PageView → List ℕ
+line_counts page = row_counts page.width page.lines
+
+-- the number of the row that a line begins with: the sum of the rows of the earlier lines
+abbrev pub first_row : PageView → ℕ → ℕ
+first_row page index = sum (take index (line_counts page))
 
 -- whether some grapheme is wider than w
 abbrev pub is_wider : ℕ → List Grapheme → Bool

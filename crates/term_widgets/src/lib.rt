@@ -15,6 +15,7 @@ mod page;
 mod page_rows;
 mod paragraph;
 mod picture;
+mod row_place;
 #[cfg(test)]
 mod tests;
 #[cfg(test)]

@@ -2,9 +2,10 @@
 ghost use Rattle.std.specs.Prelude.{◌≡◌, ◌^◌, ◌≤◌, length, IsTrue, IfOk, OnOk, IsErrOf, MatchOption};
 ghost use Rattle.term_core.specs.Graph.{graphs};
 ghost use Rattle.term_core.specs.Wrap.{NoneWider, wrap};
-ghost use Rattle.term_widgets.specs.Page.{AllFit, any_wider, rows_of};
+ghost use Rattle.term_widgets.specs.Page.{AllFit, any_wider, row_counts};
 
-use term_core::{Cutter, Line, NoSteps, Steps, WidgetError};
+use std::alloc::Global;
+use term_core::{Cutter, Line, NoSteps, RowIndex, Steps, WidgetError};
 
 /// The number of rows of the line, if `usize` counts them.
 fn row_count(line: &Line, width: usize) -> Option<usize>
@@ -45,19 +46,23 @@ fn row_count_of(line: &Line, width: u16) -> Result<usize, WidgetError>
     }
 }
 
-/// The number of rows of the lines, each of which has to fit the page.
-pub(crate) fn count_rows(lines: &[Line], width: u16) -> Result<usize, WidgetError>
-    ensures ok { IfOk result (λ n. n ≡ length (rows_of width lines.now)) }
+/// The number of rows of each of the lines, each of which has to fit the page.
+pub(crate) fn count_rows(alloc: Global, lines: &[Line], width: u16) -> Result<RowIndex, WidgetError>
+    ensures ok { IfOk result (λ index. index ≡ row_counts width lines.now) }
     ensures fits { OnOk result (AllFit width lines.now) }
     ensures narrow { IsErrOf result WidgetError.TooNarrow → IsTrue (any_wider width lines.now) }
-    ensures memory { IsErrOf result WidgetError.Memory → 2 ^ 64 ≤ length (rows_of width lines.now) }
 {
-    let mut rows = 0usize;
+    let Ok(mut index) = RowIndex::with_capacity(alloc, lines.len()) else {
+        return Err(WidgetError::Memory);
+    };
     for line in lines {
-        let Some(sum) = rows.checked_add(row_count_of(line, width)?) else {
+        let rows = row_count_of(line, width)?;
+        if rows > usize::MAX - index.total() {
+            return Err(WidgetError::Memory);
+        }
+        let Ok(()) = index.push(rows) else {
             return Err(WidgetError::Memory);
         };
-        rows = sum;
     }
-    Ok(rows)
+    Ok(index)
 }

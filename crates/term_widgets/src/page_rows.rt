@@ -20,14 +20,14 @@ pub(crate) struct PageRows<'t, 'a> {
 impl<'t, 'a> PageRows<'t, 'a> {
     ghost use Rattle.term_widgets.specs.PageRows.{line_rows, later_rows, page_left};
 
-    /// The rows of lines that fit the page.
-    pub(crate) fn new(lines: &'t [Line<'a>], width: usize) -> PageRows<'t, 'a>
+    /// The rows of lines that fit the page, from the line at a place on.
+    pub(crate) fn new(lines: &'t [Line<'a>], place: usize, width: usize) -> PageRows<'t, 'a>
         requires { AllFit width lines.now }
-        ensures { page_left result ≡ rows_of width lines.now }
+        ensures { page_left result ≡ rows_of width (drop place lines.now) }
     {
         PageRows {
             lines,
-            place: 0,
+            place,
             width,
             cutter: None,
         }

@@ -7,7 +7,7 @@ use Rattle.term_core.specs.declared.rect.Rect.{Rect}
 use Rattle.term_core.proofs.BufferRowsLemmas.{RowsTake, cell_rows-view}
 use Rattle.term_widgets.specs.Cuts.{IsNotedUpTo, rows_cut}
 use Rattle.term_widgets.specs.Page.{PageView, page_rows, AllFit}
-use Rattle.term_widgets.proofs.CutsLemmas.{on_err}
+use Rattle.term_widgets.proofs.CutsLemmas.{hides_part, le_of_test, lt_of_test, on_err, shows_parts}
 use Rattle.term_widgets.proofs.PageLemmas.{RowsTake-rows_of}
 use Rattle.term_widgets.proofs.page.Page.draw.Goals as goal
 
@@ -60,3 +60,36 @@ returns-clause-rows g c some =
     ap (area_rows c.put.new.self) (sym is) ∙ c.put.ensures.rows ∙ ap₂ (λ (r : Rect) cs. cell_rows r.width r.height cs) is items
     ∙ cell_rows-view (page_rows page) cut.width cut.height c.args.scroll
     (subst (λ w. RowsTake w (page_rows page)) (sym wide) (RowsTake-rows_of page.width page.lines fits))
+
+pub returns-then-is_empty-clause-probes : goal.returns-then-is_empty-clause-probes
+returns-then-is_empty-clause-probes g c shows =
+    let is : c.intersection-cut.result ≡ intersection c.args.area c.args.buf.now.area =
+    c.intersection-cut.ensures ∙ ap (λ (r : Rect). intersection c.args.area r) c.area.ensures.value in
+    let none : true ≡ is_empty (intersection c.args.area c.args.buf.now.area) = c.if-is_empty.ensures ∙ ap (λ (r : Rect). is_empty r) is in
+    absurd (let both = none ∙ (shows_parts (is_empty (intersection c.args.area c.args.buf.now.area)) _ shows).0 in cc)
+
+pub returns-in_err-made-clause-probes : goal.returns-in_err-made-clause-probes
+returns-in_err-made-clause-probes g c shows =
+    c.in_err-made.ensures.probes
+    (lt_of_test _ _ (shows_parts (is_empty (intersection c.args.area c.args.buf.now.area)) _ shows).1)
+
+pub returns-in_err-made-clause-unprobed : goal.returns-in_err-made-clause-unprobed
+returns-in_err-made-clause-unprobed g c hides =
+    let is : c.intersection-cut.result ≡ intersection c.args.area c.args.buf.now.area =
+    c.intersection-cut.ensures ∙ ap (λ (r : Rect). intersection c.args.area r) c.area.ensures.value in
+    let some : false ≡ is_empty (intersection c.args.area c.args.buf.now.area) = c.if-is_empty.ensures ∙ ap (λ (r : Rect). is_empty r) is in
+    c.in_err-made.ensures.unprobed
+    (le_of_test _ _ (hides_part (is_empty (intersection c.args.area c.args.buf.now.area)) _ (sym some) hides))
+
+pub returns-clause-probes : goal.returns-clause-probes
+returns-clause-probes g c shows =
+    c.in_ok-made.ensures.probes
+    (lt_of_test _ _ (shows_parts (is_empty (intersection c.args.area c.args.buf.now.area)) _ shows).1)
+
+pub returns-clause-unprobed : goal.returns-clause-unprobed
+returns-clause-unprobed g c hides =
+    let is : c.intersection-cut.result ≡ intersection c.args.area c.args.buf.now.area =
+    c.intersection-cut.ensures ∙ ap (λ (r : Rect). intersection c.args.area r) c.area.ensures.value in
+    let some : false ≡ is_empty (intersection c.args.area c.args.buf.now.area) = c.if-is_empty.ensures ∙ ap (λ (r : Rect). is_empty r) is in
+    c.in_ok-made.ensures.unprobed
+    (le_of_test _ _ (hides_part (is_empty (intersection c.args.area c.args.buf.now.area)) _ (sym some) hides))
