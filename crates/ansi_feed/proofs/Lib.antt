@@ -1,6 +1,8 @@
 pub mod EndedLemmas
 pub mod FeedLemmas
 pub mod ReadLemmas
+pub mod LetterLemmas
+pub mod PendingLemmas
 pub mod PushLemmas
 pub mod CallLemmas
 pub mod PlainLemmas

@@ -13,7 +13,7 @@ use Rattle.ansi_feed.specs.Answers.{Passes}
 use Rattle.ansi_feed.proofs.FeedLemmas.{last_of-append, last_of-back, last_of-few, last_of-short, lines_from-raw, style_after-raw, style_after-nil}
 
 -- the first line, and the others
-lines_from-first : (style : Style) (rest line after : List ℕ) → raw_lines rest ≡ line ∷ raw_lines after
+pub lines_from-first : (style : Style) (rest line after : List ℕ) → raw_lines rest ≡ line ∷ raw_lines after
     → lines_from style rest ≡ ansi_line style line ∷ lines_from (style_after_line style line) after
 unfolding styled
 lines_from-first style rest line after e =

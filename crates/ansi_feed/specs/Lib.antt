@@ -1,4 +1,5 @@
 pub mod Ended
+pub mod Pending
 pub mod Feed
 pub mod Errors
 pub mod Answers

@@ -6,6 +6,7 @@ mod error;
 mod feed;
 pub mod laws;
 mod lines;
+mod pending;
 mod plain;
 mod process;
 mod program;
