@@ -449,7 +449,18 @@ fn tables_have_a_head_and_rows(rt: HostRuntime) -> Result<(), Fail> {
 fn some_forms_are_not_built(rt: HostRuntime) {
     assert!(rt; built("Hello, *world*! [a](b:c)\r\n---\n|1. > - :\r      \n\tc\n```"));
     assert!(rt; built("Note: this\n- a: b\n> 1. c:\td\nax : y x: z\r::\n:"));
-    for text in ["a$", "<b", "![a", "[^a", ": b", "a\n:\tb", "a\r> - 1) : b", "- [x] : b", "---", "---  \na"] {
+    for text in [
+        "a$",
+        "<b",
+        "![a",
+        "[^a",
+        ": b",
+        "a\n:\tb",
+        "a\r> - 1) : b",
+        "- [x] : b",
+        "---",
+        "---  \na",
+    ] {
         assert!(rt; !built(text));
     }
 }
