@@ -79,7 +79,8 @@ fn push_row(pen: &mut Pen, row: &[Cell]) -> Result<(), PrintError>
     Ok(())
 }
 
-/// Adds so many blank cells behind one of a look, and answers the look behind them.
+/// Adds so many blank cells behind one of a look, and answers the look behind them. As a rule there is none.
+#[inline(always)]
 fn push_blanks(pen: &mut Pen, last: Look, count: usize) -> Result<Look, AllocError>
     ensures { IfOk result (λ look. (cs : List CellView)
         → pen.new ++ cells_text look cs ≡ pen.old ++ cells_text last (replicate count blank_cell ++ cs)) }

@@ -5,7 +5,7 @@ ghost use Rattle.ansi_text.specs.Written.{written_behind, written_others};
 ghost use Rattle.term_text.specs.declared.style.Color.{Color};
 ghost use Rattle.term_ansi.specs.Sgr.{color_items, modifier_item, modifier_items, sequence_text};
 
-use crate::look::Look;
+use crate::look::{Look, color_number};
 use bitflags::Flags;
 use term_text::{Color, Modifier};
 
@@ -53,6 +53,9 @@ fn put_modifiers(line: &mut [u8], at: usize, set: Modifier) -> usize
     let at = put_modifier(line, at, set, Modifier::DIM, 2);
     let at = put_modifier(line, at, set, Modifier::ITALIC, 3);
     let at = put_modifier(line, at, set, Modifier::UNDERLINED, 4);
+    if set.bits() < Modifier::SLOW_BLINK.bits() {
+        return at;
+    }
     let at = put_modifier(line, at, set, Modifier::SLOW_BLINK, 5);
     let at = put_modifier(line, at, set, Modifier::RAPID_BLINK, 6);
     let at = put_modifier(line, at, set, Modifier::REVERSED, 7);
@@ -74,8 +77,23 @@ fn put_modifier(line: &mut [u8], at: usize, set: Modifier, modifier: Modifier, c
     put_code(line, at, code)
 }
 
-/// Puts the code of a colour, where the first of the eight dark ones has the code `first`.
+/// Puts the code of a colour, where the first of the eight dark ones has the code `first`; the terminal's own has none.
+#[inline(always)]
 fn put_color(line: &mut [u8], at: usize, first: u8, color: Color) -> usize
+    requires room { at + 17 ≤ length line.old }
+    requires code { first ≤ 40 }
+    ensures text { take result line.new ≡ take at line.old ++ written_others (color_items first color) }
+    ensures end { result ≤ at + 17 }
+    ensures len { length line.new ≡ length line.old }
+{
+    if color_number(color) == 0 {
+        return at;
+    }
+    put_own_color(line, at, first, color)
+}
+
+/// Puts the code of a colour, one that is not the terminal's own as a rule.
+fn put_own_color(line: &mut [u8], at: usize, first: u8, color: Color) -> usize
     requires room { at + 17 ≤ length line.old }
     requires code { first ≤ 40 }
     ensures text { take result line.new ≡ take at line.old ++ written_others (color_items first color) }
