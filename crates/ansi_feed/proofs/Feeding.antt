@@ -6,15 +6,13 @@ use Rattle.ends.specs.Causes.{Rose, NoFault}
 use Rattle.programs.specs.declared.status.Status.{Status}
 use Rattle.programs.specs.declared.status.Status.TheVariants.{Done, Usage, ReadFault, TooLong, NotUtf8, TooNarrow, WriteFault, Memory, Unbuilt}
 use Rattle.programs.specs.Reading.{Change, limit}
-use Rattle.programs.specs.Ran.{HasWritten}
-use Rattle.programs.specs.Writing.{WroteAll, WroteSome}
 use Rattle.programs.proofs.Transfers.{consumes_more, consumes_nothing}
 use Rattle.ansi_text.specs.Ansi.{is_text}
 use Rattle.term_text.specs.Style.{no_style}
 use Rattle.ansi_feed.specs.Ended.{ended, unfinished}
 use Rattle.ansi_feed.specs.Feed.{FeedView, Stands, ended_lines, finished, finished_feed, last_of, lines_at_finish}
-use Rattle.ansi_feed.specs.Plain.{log_lines, printed, shown}
-use Rattle.ansi_feed.specs.Log.{FedAll, HasFed, Logs, Step, Stopped, StopsFeed, StopsStep, Taken, WhyStep}
+use Rattle.ansi_feed.specs.Plain.{log_lines}
+use Rattle.ansi_feed.specs.Log.{FedAll, Step, Stopped, StopsFeed, StopsStep, Taken, WhyStep}
 use Rattle.ansi_feed.proofs.FeedLemmas.{Stands-with, Stands-finished, text-piece, text-finished, finished_feed-bound, lines_from-finished}
 
 -- a finished input has all the lines
@@ -153,55 +151,3 @@ fed_stop bound status old middle new before then now feed count on step = record
     go TooNarrow got h = h
     go WriteFault got h = h
     go Unbuilt got h = h
-
--- a run whose feeding stopped
-pub stopped_logs : (bound : ℕ) (status : Status) (r w : Change) (untouched : Type 0) → Stopped status r → untouched → Logs bound status r w untouched
-stopped_logs bound status r w untouched stopped same = record {
-  taken = stopped.taken;
-  got = stopped.got;
-  took = stopped.took;
-  fed = (go status stopped.got stopped.fed).0;
-  wrote = (go status stopped.got stopped.fed).1;
-}
-  where
-    go : (status : Status) (got : List ℕ) → StopsFeed status r stopped.taken got
-        → HasFed status r stopped.taken got × HasWritten status w (shown bound stopped.taken) untouched
-    go ReadFault got h = (h, same)
-    go TooLong got h = (h, same)
-    go NotUtf8 got h = (h, same)
-    go Memory got h = (h, same)
-    go Done got h = absurd h
-    go Usage got h = absurd h
-    go TooNarrow got h = absurd h
-    go WriteFault got h = absurd h
-    go Unbuilt got h = absurd h
-
--- a run over a source that was fed to its end
-pub fed_logs_done : (bound : ℕ) (r w : Change) (untouched : Type 0) (feed : FeedView) (output : List ℕ) → FedAll bound r feed → output ≡ printed feed.lines
-    → WroteAll w output → Logs bound Done r w untouched
-fed_logs_done bound r w untouched feed output fed is wrote = record {
-  taken = fed.taken;
-  got = [];
-  took = fed.took;
-  fed = fed.fed;
-  wrote = subst (λ (o : List ℕ). WroteAll w o) (is ∙ ap printed fed.lines) wrote;
-}
-
-pub fed_logs_fault : (bound : ℕ) (r w : Change) (untouched : Type 0) (feed : FeedView) (output : List ℕ) (status : Status) → FedAll bound r feed
-    → output ≡ printed feed.lines → (status ≡ WriteFault) × WroteSome w output → Logs bound status r w untouched
-fed_logs_fault bound r w untouched feed output status fed is failed = subst (λ (s : Status). Logs bound s r w untouched) (sym failed.0) (record {
-  taken = fed.taken;
-  got = [];
-  took = fed.took;
-  fed = fed.fed;
-  wrote = subst (λ (o : List ℕ). WroteSome w o) (is ∙ ap printed fed.lines) failed.1;
-})
-
-pub fed_logs_memory : (bound : ℕ) (r w : Change) (untouched : Type 0) (feed : FeedView) → FedAll bound r feed → untouched → Logs bound Memory r w untouched
-fed_logs_memory bound r w untouched feed fed same = record {
-  taken = fed.taken;
-  got = [];
-  took = fed.took;
-  fed = (omega (arith, length-append fed.taken [], fed.took.short), fed.fed.3);
-  wrote = same;
-}

@@ -3,7 +3,7 @@ use Rattle.std.proofs.Common.{◌≡◌, ◌<◌, ◌≤◌, ◌+◌, ◌-◌, �
 use Rattle.std.proofs.lemmas.Bool.{and_parts, eqb-true, false≢true}
 use Rattle.std.proofs.lemmas.Bool.Decides.{nat_tests}
 use Rattle.std.proofs.Math.Seq.{take-append_seam, take-append-add, take-length, drop-append_seam, drop-length}
-use Rattle.std.proofs.lemmas.List.{take-append-le, take-append-drop, length-take-le, drop-drop, drop-append-le}
+use Rattle.std.proofs.lemmas.List.{take-append-le, take-append-drop, length-take-le, drop-append-le}
 use Rattle.std.specs.Char.{IsScalar, encode_utf8}
 use Rattle.std.proofs.lemmas.Str.{IsUtf8-nil, IsUtf8-append, IsUtf8-drop, IsUtf8-encode, IsCharBoundary-from_take, is_utf8-from_IsUtf8, IsUtf8-from_is_utf8, length-encode, len_utf8_bounds}
 use Rattle.std.specs.List.{list_all}
@@ -13,7 +13,7 @@ use Rattle.term_text.specs.Style.{no_style}
 use Rattle.term_text.specs.Text.{SpanView}
 use Rattle.term_text.specs.declared.style.Style.{Style}
 use Rattle.ansi_text.specs.Sequences.{Sequence, sequence, items}
-use Rattle.ansi_text.specs.Pieces.{Piece, sgr, cut, stretch, is_letter, is_bell, beyond, after_dropped, escape_of, escape, pieces_within, pieces, first_escape}
+use Rattle.ansi_text.specs.Pieces.{Piece, sgr, cut, stretch, is_letter, is_bell, beyond, escape_of, escape, pieces, first_escape}
 use Rattle.ansi_text.specs.Ansi.{after_sequence, after_pieces, spans, styled, ansi_line, style_after_line, line_is_text, is_text}
 use Rattle.std.specs.Option.{option_and_then}
 use Rattle.ansi_text.proofs.PieceLemmas.{with_stretch, pieces-escape, pieces-split, pieces-nil}
@@ -286,20 +286,9 @@ passes-title v [] some e = absurd (omega (arith, some))
 passes-title true (b ∷ bs) some e = record { within = omega arith; same = λ more. title-step true b (bs ++ more) e }
 passes-title false (b ∷ bs) some e = record { within = omega arith; same = λ more. title-step false b (bs ++ more) e }
 
-pub passes-begin_bracket : (bs : List ℕ) → 0 < length bs → get_or bs 0 0 ≡ 91 → PassesBytes Escape bs (place Bracket 1)
-passes-begin_bracket [] some e = absurd (omega (arith, some))
-passes-begin_bracket (b ∷ bs) some e = record { within = omega arith; same = λ more. ap (λ (x : ℕ). text_line (27 ∷ x ∷ (bs ++ more))) e }
-
-pub passes-begin_title : (bs : List ℕ) → 0 < length bs → get_or bs 0 0 ≡ 93 → PassesBytes Escape bs (place Title 1)
-passes-begin_title [] some e = absurd (omega (arith, some))
-passes-begin_title (b ∷ bs) some e = record { within = omega arith; same = λ more. ap (λ (x : ℕ). text_line (27 ∷ x ∷ (bs ++ more))) e }
-
 pub passes-escape : (bs : List ℕ) (p : Place) → 0 < length bs → (get_or bs 0 0 == 91) ≡ false → (get_or bs 0 0 == 93) ≡ false → PassesBytes Stretch bs p → PassesBytes Escape bs p
 passes-escape [] p some e f passes = absurd (omega (arith, some))
 passes-escape (b ∷ bs) p some e f passes = record { within = passes.within; same = λ more. escape-other b (bs ++ more) e f ∙ passes.same more }
-
-pub passes-all_lost : (bs : List ℕ) → PassesBytes Lost bs (place Lost (length bs))
-passes-all_lost bs = record { within = omega arith; same = λ more. refl }
 
 pub passes-ended_as : (bs : List ℕ) (v : Bool) (q : Pending) (n : ℕ) → n ≡ first_escape bs → n ≤ length bs → (n ≡ length bs → ⊥) → v ≡ is_utf8 (take n bs)
     → q ≡ cond v Escape Lost → PassesBytes Stretch bs (place q (n + 1))
@@ -325,13 +314,6 @@ passes-title_as p bs v r some is bell r_is =
 -- nothing, and some bytes behind others
 pub passes-none : (pending : Pending) (bs : List ℕ) → PassesBytes pending bs (place pending 0)
 passes-none pending bs = record { within = omega arith; same = λ more. refl }
-
-pub passes-more : (pending : Pending) (bs : List ℕ) (p q : Place) → PassesBytes pending bs p → PassesBytes p.pending (drop p.count bs) q
-    → PassesBytes pending bs (place q.pending (p.count + q.count))
-passes-more pending bs p q first second = record {
-  within = omega (arith, first.within, second.within, length-drop p.count bs);
-  same = λ more. first.same more ∙ second.same more ∙ ap (λ (xs : List ℕ). pending_text q.pending (xs ++ more)) (drop-drop q.count p.count bs);
-}
 
 -- ---- the end of a line
 

@@ -86,9 +86,6 @@ last_of-drop n (x ∷ xs) ys some many =
     let more : length (x ∷ (xs ++ ys)) - n ≡ suc (length (xs ++ ys) - n) = omega (arith, length-append xs ys) in
     sym (ap (λ (k : ℕ). drop k (x ∷ (xs ++ ys))) more)
 
-pub last_of-fits : {A : Type 0} (n : ℕ) (xs ys : List A) → length xs + length ys ≤ n → last_of n (xs ++ ys) ≡ xs ++ ys
-last_of-fits n xs ys h = last_of-few n (xs ++ ys) (omega (arith, length-append xs ys))
-
 -- there are as many lines as the bytes are cut into
 styled-length : (style : Style) (ls : List (List Piece)) → length (styled style ls) ≡ length ls
 unfolding styled
@@ -107,9 +104,6 @@ last_of-pass : {A : Type 0} (n : ℕ) (xs ys : List A) (y : A) → n ≤ length 
 last_of-pass n xs ys y h =
     let more : length (y ∷ ys) - n ≡ suc (length ys - n) = omega arith in
     sym (last_of-back n xs ys) ∙ ap (λ (k : ℕ). last_of n (xs ++ drop k (y ∷ ys))) (sym more) ∙ last_of-back n xs (y ∷ ys)
-
-pub Passes-start : (bound : ℕ) (style : Style) (bytes : List ℕ) → Passes bound style bytes style bytes
-Passes-start bound style bytes = record { are_lines = λ lines. refl; is_style = refl; are_text = refl }
 
 pub Passes-step : (bound : ℕ) (begun : Style) (bytes : List ℕ) (style next : Style) (rest line after : List ℕ) → Passes bound begun bytes style rest
     → raw_lines rest ≡ line ∷ raw_lines after → bound ≤ length (raw_lines after) → next ≡ style_after_line style line

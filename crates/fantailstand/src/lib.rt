@@ -18,7 +18,7 @@ pub use md_text::{
 pub use term_ansi::{PrintError, print_ansi, separable};
 pub use term_core::{
     Alignment, Buffer, Caption, Cell, Color, Counted, CowStr, Cutter, Graph, Ledger, Line,
-    Modifier, NoSteps, Paint, Rect, Row, Span, Steps, Style, Text, VisitedCells, Widget,
+    Modifier, NoSteps, Paint, Rect, Row, RowIndex, Span, Steps, Style, Text, VisitedCells, Widget,
     WidgetError,
 };
 pub use term_widgets::{Block, MascotEyeColor, Page, Paragraph, RatatuiMascot};

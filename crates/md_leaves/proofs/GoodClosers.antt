@@ -27,9 +27,6 @@ empty_front-none level n e = go (level == 0) e
     go true e = cc
     go false e = absurd (let h : ⊥ = cc in h)
 
-clear-plain : (b next : ℕ) → at_bar (b ∷ next ∷ []) ≡ false → ends_line b ≡ false
-clear-plain b next e = grind (arith, nat_tests)
-
 balanced-plain : (level : ℕ) (bs : List ℕ) (n k : ℕ) → balanced level bs ≡ Some n → k < n → ends_line (get_or bs k 0) ≡ false
 unfolding balanced
 balanced-plain level [] n k e lt = absurd (let z : n ≡ 0 = empty_front-none level n e in omega arith)

@@ -35,9 +35,6 @@ pub record Cuts (source : List ℕ) (at : ℕ) (so_far : List Leaf) : Type 0 whe
   pub within : at ≤ length source
   pub whole : so_far ++ leaves_after source at 0 (drop at source) ≡ leaves source
 
-pub Cuts-start : (source : List ℕ) → Cuts source 0 []
-Cuts-start source = record { within = omega arith; whole = refl }
-
 pub Cuts-step : (source : List ℕ) (at : ℕ) (so_far : List Leaf) (cut : Cut) → at + cut.more < length source → cut ≡ first_cut source at (drop at source) → Cuts source at so_far → Cuts source (at + 1 + cut.more) (so_far ++ leaf at cut ∷ [])
 Cuts-step source at so_far cut lt is c = record {
   within = omega arith;

@@ -3,7 +3,7 @@ use Rattle.std.proofs.Common.{List, [], ◌∷◌, ◌++◌, length, drop, get_o
 use Rattle.std.specs.List.{All}
 use Rattle.std.specs.Option.{option_and_then, option_map, option_or}
 use Rattle.std.proofs.lemmas.Bool.Decides.{nat_tests}
-use Rattle.std.proofs.lemmas.List.{drop-drop, get_or_append_left, get_or_push}
+use Rattle.std.proofs.lemmas.List.{get_or_append_left, get_or_push}
 use Rattle.md_leaves.specs.Ahead.{IsStop, closers_before}
 use Rattle.md_leaves.specs.Closers.{at_bar, balanced, empty_front, level_after}
 use Rattle.md_leaves.proofs.PlainLemmas.{balanced-at, balanced-bar, balanced-past}
@@ -93,10 +93,6 @@ IsStop-open source at closers lt clear is short level =
 
 pub IsStop-past : (source : List ℕ) (at : ℕ) → length source ≤ at → IsStop source at
 IsStop-past source at le level = balanced-past source at level le
-
-pub IsStop-rest : (source : List ℕ) (at stop : ℕ) → at ≤ stop → IsStop source stop → IsStop (drop at source) (stop - at)
-IsStop-rest source at stop le is level =
-    ap (balanced level) (drop-drop (stop - at) at source ∙ ap (λ k. drop k source) (let h : at + (stop - at) ≡ stop = omega arith in h)) ∙ is level
 
 pub IsShort-stop : (source : List ℕ) (at closers : ℕ) → IsStop source at → IsShort source at closers
 IsShort-stop source at closers is level far = is level ∙ open-none level (omega arith)

@@ -14,9 +14,6 @@ pub record Ends (source : List ℕ) (at : ℕ) (ends : List ℕ) : Type 0 where
   pub within : at ≤ length source
   pub none : (n p : ℕ) → 0 < n → p ≤ at → slice_index ends n ≤ p → is_tick (slice_index source p) ≡ false → run_end n 0 (drop at source) ≡ None → run_end n 0 (drop p source) ≡ None
 
-pub Ends-start : (source : List ℕ) → Ends source 0 []
-Ends-start source = record { within = omega arith; none = λ n p some le last plain e. subst (λ k. run_end n 0 (drop k source) ≡ None) (let h : 0 ≡ p = omega arith in h) e }
-
 zero-none : (n : ℕ) → 0 < n → (0 == n) ≡ false
 zero-none n some = grind (arith, nat_tests)
 

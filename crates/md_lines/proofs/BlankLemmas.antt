@@ -1,10 +1,10 @@
 -- What is left without the blanks at the end.
 use Rattle.std.proofs.Common.{cond, List, [], ◌∷◌, ◌++◌, length, take, drop, get_or, ◌≡◌, ◌≤◌, ◌<◌, ◌+◌, ◌-◌, ℕ, refl, sym, ap, ◌∙◌, arith, true, false, Bool, ◌&&◌}
 use Rattle.std.specs.List.{list_all}
-use Rattle.std.proofs.lemmas.List.{take_more, take_all}
+use Rattle.std.proofs.lemmas.List.{take_more}
 use Rattle.std.proofs.lemmas.List.Folds.{list_all-append}
 use Rattle.std.specs.Str.{IsCharBoundary}
-use Rattle.std.proofs.lemmas.Str.{IsCharBoundary-before_ascii, IsCharBoundary-end}
+use Rattle.std.proofs.lemmas.Str.{IsCharBoundary-before_ascii}
 use Rattle.std.proofs.lemmas.Bool.Decides.{nat_tests}
 use Rattle.md_lines.specs.Blanks.{is_blank, without_end_blanks}
 
@@ -31,15 +31,6 @@ end_blanks-all (b ∷ bs) = go (list_all is_blank (b ∷ bs)) refl (end_blanks-a
     go : (v : Bool) → list_all is_blank (b ∷ bs) ≡ v → list_all is_blank (end_blanks bs) ≡ true → list_all is_blank (drop (length (cond v [] (b ∷ without_end_blanks bs))) (b ∷ bs)) ≡ true
     go true e rest = e
     go false e rest = rest
-
-pub without_end_blanks-all : (bs : List ℕ) → list_all is_blank bs ≡ true → without_end_blanks bs ≡ []
-unfolding without_end_blanks
-without_end_blanks-all [] all = refl
-without_end_blanks-all (b ∷ bs) all = ap (λ v. cond v [] (b ∷ without_end_blanks bs)) all
-
-pub without_end_blanks-some : (b : ℕ) (bs : List ℕ) → list_all is_blank (b ∷ bs) ≡ false → without_end_blanks (b ∷ bs) ≡ b ∷ without_end_blanks bs
-unfolding without_end_blanks
-without_end_blanks-some b bs some = ap (λ v. cond v [] (b ∷ without_end_blanks bs)) some
 
 -- a blank more at the end changes nothing
 pub without_end_blanks-blank : (xs : List ℕ) (b : ℕ) → is_blank b ≡ true → without_end_blanks (xs ++ b ∷ []) ≡ without_end_blanks xs
@@ -70,13 +61,6 @@ pub record Trims (text : List ℕ) (end : ℕ) : Type 0 where
   pub within : end ≤ length text
   pub so_far : without_end_blanks (take end text) ≡ without_end_blanks text
   pub boundary : IsCharBoundary text end
-
-pub Trims-start : (text : List ℕ) → Trims text (length text)
-Trims-start text = record {
-  within = omega arith;
-  so_far = ap without_end_blanks (take_all (length text) text (omega arith));
-  boundary = IsCharBoundary-end text;
-}
 
 is_blank-ascii : (b : ℕ) → is_blank b ≡ true → b < 128
 is_blank-ascii b e = grind (arith, nat_tests)

@@ -54,9 +54,6 @@ unfolding raw_lines
 lines_of-empty [] e = refl
 lines_of-empty (x ∷ xs) e = absurd (omega arith)
 
-and-true : (a b : Bool) → a ≡ true → b ≡ true → (a && b) ≡ true
-and-true a b p q = rw (p, q) refl
-
 right-true : (a b : Bool) → (a && b) ≡ true → b ≡ true
 right-true true b h = h
 right-true false b h = absurd (false≢true h)

@@ -1,14 +1,12 @@
 -- The pieces of a text's layout, and the page that is drawn of the text behind some bytes.
-use Rattle.std.proofs.Common.{◌≡◌, ◌<◌, ◌^◌, ℕ, List, length, true, false, ap, sym, subst, ◌∙◌}
-use Rattle.std.specs.Prelude.{IsUtf8}
+use Rattle.std.proofs.Common.{◌≡◌, ◌<◌, ◌^◌, ℕ, List, length, false, ap, sym, subst, ◌∙◌}
 use Rattle.term_core.specs.BufferRows.{area_rows}
 use Rattle.term_core.specs.Buffers.{BufferView, cell_at, cell_put}
 use Rattle.term_core.specs.Cells.{view}
 use Rattle.term_core.specs.Lists.{joined}
-use Rattle.term_core.specs.Rect.{is_empty}
 use Rattle.term_core.specs.declared.rect.Rect.{Rect}
 use Rattle.term_widgets.specs.Page.{PageView, page_rows}
-use Rattle.md_page.specs.Shown.{IsDrawn, IsTooNarrow, rows, too_wide}
+use Rattle.md_page.specs.Shown.{IsDrawn, rows, too_wide}
 use Rattle.md_events.specs.Blocks.{tree}
 use Rattle.md_events.proofs.GoodBlocks.{tree-good}
 use Rattle.md_text.specs.Environment.{first_environment, first_spacing}
@@ -32,11 +30,6 @@ lines_hold_pieces look text small = document-holds look (tree text) (tree-good t
 pub drawn_of : (look : Look) (t text : List ℕ) (cut : Rect) (scroll : ℕ) (page : PageView) (old new : BufferView) → t ≡ text
     → IsDrawn look t cut scroll page old new → IsDrawn look text cut scroll page old new
 drawn_of look t text cut scroll page old new e drawn = subst (λ s. IsDrawn look s cut scroll page old new) e drawn
-
-pub narrow_of : (look : Look) (t text : List ℕ) (cut : Rect) → t ≡ text → IsUtf8 text → (is_empty cut ≡ false) × (too_wide look t cut.width ≡ true)
-    → IsTooNarrow look text cut
-narrow_of look t text cut e utf8 narrow =
-    record { utf8 = utf8; some = narrow.0; wide = ap (λ s. too_wide look s cut.width) (sym e) ∙ narrow.1 }
 
 -- a page at an area's width that was drawn on it
 pub drawn_on : (look : Look) (text : List ℕ) (cut : Rect) (w scroll : ℕ) (page : PageView) (old new : BufferView) → w ≡ cut.width

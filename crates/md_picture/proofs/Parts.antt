@@ -1,19 +1,12 @@
 -- The cells and the parts at a place.
-use Rattle.std.proofs.Common.{◌≡◌, ℕ, zero, suc, ◌+◌, ◌<◌, ◌≤◌, List, [], ◌∷◌, ◌++◌, append_assoc, drop, get_or, length, refl, sym, ap, subst, ◌∙◌, arith}
+use Rattle.std.proofs.Common.{◌≡◌, ℕ, zero, suc, ◌+◌, ◌<◌, List, [], ◌∷◌, ◌++◌, append_assoc, drop, get_or, length, refl, sym, ap, subst, ◌∙◌, arith}
 use Rattle.std.proofs.Math.Seq.{drop-cons}
-use Rattle.std.proofs.Math.ListN.{drop_of_length-le}
 use Rattle.term_text.specs.Text.{SpanView, LineView}
 use Rattle.term_text.specs.declared.style.Style.{Style}
 use Rattle.md_picture.specs.declared.columns.Column.{Column}
-use Rattle.md_picture.specs.Cells.{empty_cell, cell_rows}
+use Rattle.md_picture.specs.Cells.{cell_rows}
 use Rattle.md_picture.specs.Picture.{first_cell, other_cells, row_parts, with_cells}
 use Rattle.md_picture.specs.Fits.{RowFits}
-
-pub first_cell-here : (at : ℕ) (cells : List LineView) (cell : LineView) → at < length cells → get_or cells at cell ≡ cell → first_cell (drop at cells) ≡ cell
-first_cell-here at cells cell lt here = ap first_cell (drop-cons cells at cell lt) ∙ here
-
-pub first_cell-past : (at : ℕ) (cells : List LineView) → length cells ≤ at → first_cell (drop at cells) ≡ empty_cell
-first_cell-past at cells past = ap first_cell (drop_of_length-le cells past)
 
 other_cells-suc : (at : ℕ) (cells : List LineView) → other_cells (drop at cells) ≡ drop (suc at) cells
 other_cells-suc zero [] = refl

@@ -14,7 +14,7 @@ use Rattle.md_tree.proofs.Nodes.{and_left, and_right}
 use Rattle.md_lines.specs.Lines.{LineText}
 use Rattle.md_rules.specs.Shallow.{is_shallow}
 use Rattle.md_rules.specs.Texts.{ends_word}
-use Rattle.md_rules.specs.Items.{digits, ends_number, has_number, is_bullet, is_task, marker_in, marker_of, numbered, task_by, task_of}
+use Rattle.md_rules.specs.Items.{digits, ends_number, has_number, is_bullet, marker_in, marker_of, numbered}
 use Rattle.md_rules.specs.declared.item.Marker.{Marker}
 
 le_nine : (n : ℕ) → (nat_le 1 n && nat_le n 9) ≡ true → n ≤ 9
@@ -67,16 +67,6 @@ marker-boundary line m utf8 h = go (is_shallow line) h
     go : (v : Bool) → cond v (marker_in line.body) None ≡ Some m → IsCharBoundary line.body m.length
     go true h = marker_in-boundary line.body m utf8 h
     go false h = cc
-
-task-bytes : (body : List ℕ) → is_task body ≡ true → (2 < length body) × (get_or body 2 0 < 128)
-task-bytes body h = grind (arith, nat_tests)
-
-pub task-boundary : (line : LineText) (done : Bool) → IsUtf8 line.body → task_of line ≡ Some done → IsCharBoundary line.body 3
-task-boundary line done utf8 h = go (is_shallow line && is_task line.body) refl h
-  where
-    go : (v : Bool) → (is_shallow line && is_task line.body) ≡ v → cond v (task_by (get_or line.body 1 0)) None ≡ Some done → IsCharBoundary line.body 3
-    go true e h = let p = task-bytes line.body (and_right (is_shallow line) (is_task line.body) e) in IsCharBoundary-after_ascii line.body 2 utf8 p.0 p.1
-    go false e h = cc
 
 -- the value of ASCII digits
 pub own : IsNumeralModel (λ ds. list_all is_ascii_digit ds ≡ true) (digits_value 10)

@@ -1,5 +1,5 @@
 -- Nodes behind nodes: their events, and whether they are good.
-use Rattle.std.proofs.Common.{◌≡◌, Bool, true, false, ◌&&◌, List, [], ◌∷◌, ◌++◌, refl, ap, sym, ◌∙◌}
+use Rattle.std.proofs.Common.{◌≡◌, Bool, true, false, ◌&&◌, List, [], ◌∷◌, ◌++◌, refl, ap, ◌∙◌}
 use Rattle.md_tree.specs.declared.event.Event.{Event}
 use Rattle.md_tree.specs.declared.event.Event.TheVariants as event
 use Rattle.md_tree.specs.declared.event.Tag.{Tag}
@@ -9,7 +9,7 @@ use Rattle.md_tree.specs.declared.place.Holds.TheVariants as level
 use Rattle.md_tree.specs.declared.place.Numbers.{Numbers}
 use Rattle.md_tree.specs.declared.place.Place.{Place}
 use Rattle.md_tree.specs.Tree.{Nodes, Empty, Leaf, Branch, end_of, events_then, events, nodes_then}
-use Rattle.md_tree.specs.Good.{good_at, good, may_stand, may_hold, may_end, place_inside, place_after, place_after_leaf, level_of, among_inlines}
+use Rattle.md_tree.specs.Good.{good_at, may_stand, place_after, level_of}
 
 pub and_left : (a b : Bool) → (a && b) ≡ true → a ≡ true
 and_left true b h = refl
@@ -40,11 +40,6 @@ nodes_then-empty Empty = refl
 nodes_then-empty (Leaf e rest) = ap (λ r. Leaf e r) (nodes_then-empty rest)
 nodes_then-empty (Branch t inside rest) = ap (λ r. Branch t inside r) (nodes_then-empty rest)
 
-pub nodes_then-assoc : (t u v : Nodes) → nodes_then (nodes_then t u) v ≡ nodes_then t (nodes_then u v)
-nodes_then-assoc Empty u v = refl
-nodes_then-assoc (Leaf e rest) u v = ap (λ r. Leaf e r) (nodes_then-assoc rest u v)
-nodes_then-assoc (Branch t inside rest) u v = ap (λ r. Branch t inside r) (nodes_then-assoc rest u v)
-
 -- events in front of others are one list
 pub events_then-append : (t : Nodes) (es fs : List Event) → events_then t (es ++ fs) ≡ events_then t es ++ fs
 events_then-append Empty es fs = refl
@@ -65,33 +60,6 @@ events_then-nodes_then (Branch t inside rest) u es =
 
 pub events-nodes_then : (t u : Nodes) → events (nodes_then t u) ≡ events t ++ events u
 events-nodes_then t u = events_then-nodes_then t u [] ∙ events_then-events t (events u)
-
--- whether nodes may stand from a place on, the end of their level aside
-abbrev pub stands_at : Place → Nodes → Bool
-stands_at p Empty = true
-stands_at p (Leaf e rest) = may_hold p e && stands_at (place_after_leaf p) rest
-stands_at p (Branch t inside rest) =
-    may_stand p t && (good_at (place_inside p t) inside && stands_at (place_after p t) rest)
-
--- the place behind nodes
-abbrev pub place_behind : Place → Nodes → Place
-place_behind p Empty = p
-place_behind p (Leaf e rest) = place_behind (place_after_leaf p) rest
-place_behind p (Branch t inside rest) = place_behind (place_after p t) rest
-
--- nodes and then others are good where the first may stand, and the others are good behind them
-pub good_at-nodes_then : (t u : Nodes) (p : Place) →
-    good_at p (nodes_then t u) ≡ (stands_at p t && good_at (place_behind p t) u)
-good_at-nodes_then Empty u p = refl
-good_at-nodes_then (Leaf e rest) u p =
-    ap (λ b. may_hold p e && b) (good_at-nodes_then rest u (place_after_leaf p)) ∙ (simp and_assoc)
-good_at-nodes_then (Branch t inside rest) u p =
-    ap (λ b. may_stand p t && (good_at (place_inside p t) inside && b)) (good_at-nodes_then rest u (place_after p t))
-    ∙ (simp and_assoc)
-
-pub good_at-stands : (t : Nodes) (p : Place) → good_at p t ≡ (stands_at p t && may_end (place_behind p t))
-good_at-stands t p =
-    ap (λ u. good_at p u) (sym (nodes_then-empty t)) ∙ good_at-nodes_then t Empty p
 
 -- levels along which the place stays: neither items nor a table, and no task mark
 abbrev pub stays : Holds → Bool
@@ -143,13 +111,3 @@ steady-good (Branch t inside rest) u h l n s g k =
 pub good_at-level : (h : Holds) (t u : Nodes) → stays h ≡ true →
     good_at (level_of h) t ≡ true → good_at (level_of h) u ≡ true → good_at (level_of h) (nodes_then t u) ≡ true
 good_at-level h t u s g k = steady-good t u h false _ s g k
-
--- good inlines behind good inlines
-pub good_at-inlines : (in_link : Bool) (t u : Nodes) →
-    good_at (among_inlines in_link) t ≡ true → good_at (among_inlines in_link) u ≡ true →
-    good_at (among_inlines in_link) (nodes_then t u) ≡ true
-good_at-inlines in_link t u g k = steady-good t u level.Inlines in_link _ refl g k
-
--- a document and then another
-pub good-nodes_then : (t u : Nodes) → good t ≡ true → good u ≡ true → good (nodes_then t u) ≡ true
-good-nodes_then t u g k = good_at-level level.Blocks t u refl g k

@@ -6,4 +6,3 @@ pub mod VisitedLemmas
 pub mod ShownLemmas
 pub mod BufferRowsLemmas
 pub mod CaptionLemmas
-pub mod RowIndexLemmas

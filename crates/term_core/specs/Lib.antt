@@ -20,4 +20,3 @@ pub mod BufferRowsIter
 pub mod Visited
 pub mod VisitedIter
 pub mod WidgetError
-pub mod RowIndex

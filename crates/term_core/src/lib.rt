@@ -10,7 +10,6 @@ mod caption;
 mod cell;
 mod paint;
 mod rect;
-mod row_index;
 #[cfg(test)]
 mod tests;
 mod visited;
@@ -22,10 +21,9 @@ pub use caption::Caption;
 pub use cell::Cell;
 pub use paint::Paint;
 pub use rect::Rect;
-pub use row_index::RowIndex;
 pub use term_text::{
     Alignment, Color, Counted, CowStr, Cutter, Graph, Graphemes, Ledger, Line, LineGraphemes,
-    Modifier, NoSteps, Row, RowGraphemes, Span, Stack, Steps, Style, Text, laws,
+    Modifier, NoSteps, Row, RowGraphemes, RowIndex, Span, Stack, Steps, Style, Text, laws,
 };
 pub use visited::VisitedCells;
 pub use widget::{Widget, WidgetError};

@@ -1,7 +1,6 @@
 // Answers that stand outside the contracts: ample memory, printed texts, cells by example.
 use crate::{
-    Buffer, Caption, Cell, Color, Counted, CowStr, Line, Modifier, Paint, Rect, RowIndex, Span,
-    Steps, Style, WidgetError,
+    Buffer, Caption, Cell, Color, CowStr, Line, Modifier, Paint, Rect, Span, Style, WidgetError,
 };
 use std::test::Fail;
 
@@ -134,22 +133,5 @@ fn a_painted_cell(rt: HostRuntime) -> Result<(), Fail> {
         ("▀", Color::Red, Color::Black)
     );
     assert_eq!(rt; cell.modifier(), Modifier::BOLD);
-    Ok(())
-}
-
-#[test]
-fn rows_of_two_lines(rt: HostRuntime) -> Result<(), Fail> {
-    let alloc = rt.alloc();
-    let mut index = RowIndex::new(alloc);
-    assert_eq!(rt; (index.lines(), index.total()), (0, 0));
-    index.push(2)?;
-    index.push(3)?;
-    assert_eq!(rt; (index.lines(), index.total()), (2, 5));
-    let mut steps = Steps::new(Counted::new());
-    assert_eq!(rt; index.before(0, &mut steps), 0);
-    assert_eq!(rt; index.before(1, &mut steps), 2);
-    assert_eq!(rt; index.before(2, &mut steps), 5);
-    assert_eq!(rt; steps.ledger().count(), 3);
-    assert_eq!(rt; RowIndex::with_capacity(alloc, 2)?.lines(), 0);
     Ok(())
 }

@@ -1,22 +1,16 @@
 -- How the visible graphemes follow from the pieces.
 use Rattle.std.proofs.Common.{◌≡◌, None, ℕ, zero, suc, ◌≤◌, true, false, List, [], ◌∷◌, ◌++◌, map, drop, length, get_or, ◌+◌, ◌<◌, refl, sym, ap, ◌∙◌, arith, append-nil, ap₂, take, slice_range, ◌-◌}
 use Rattle.std.proofs.lemmas.List.{length-map, drop_more, drop_all}
-use Rattle.std.proofs.lemmas.Str.{IsCharBoundary-from_ascii, chars-nil}
+use Rattle.std.proofs.lemmas.Str.{chars-nil}
 use Rattle.std.specs.List.{list_all}
-use Rattle.std.specs.Str.{IsCharBoundary}
 use Rattle.unicode_segmentation.specs.Grapheme.{graphemes}
-use Rattle.term_text.proofs.PlainLemmas.{visible-plain, visible-printable, IsAscii-printable}
+use Rattle.term_text.proofs.PlainLemmas.{visible-plain, visible-printable}
 use Rattle.std.specs.Str.{chars}
-use Rattle.unicode_segmentation.specs.Segments.{Rule, segments, cut}
 use Rattle.term_text.specs.declared.style.Style.{Style}
 use Rattle.term_text.specs.declared.graphs.Graphemes.{Graphemes}
 use Rattle.term_text.specs.Graph.{Grapheme, grapheme_of, is_visible, visible}
 use Rattle.term_text.specs.Iter.{glyph_pieces, cluster_pieces, pieces_left, plain_left, stretch_left, graphs_left}
 use Rattle.term_text.specs.Plain.{IsPlain, byte_grapheme, is_printable, plain_grapheme}
-
-pub segments-nil : (rule : Rule) → segments rule [] ≡ []
-unfolding segments cut chars
-segments-nil rule = refl
 
 pub visible-hidden : (style : Style) (p : List ℕ) (ps : List (List ℕ)) → is_visible p ≡ false → visible style (p ∷ ps) ≡ visible style ps
 unfolding visible
@@ -102,7 +96,3 @@ one-byte bytes at lt = ap₂ take one (drop_more bytes at 0 lt)
   where
     one : at + 1 - at ≡ 1
     one = omega arith
-
--- a text of printable ASCII may be cut at any byte
-pub boundary-printable : (text : List ℕ) (i : ℕ) → list_all is_printable text ≡ true → i ≤ length text → IsCharBoundary text i
-boundary-printable text i h le = IsCharBoundary-from_ascii text i (IsAscii-printable text h) le

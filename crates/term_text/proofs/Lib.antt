@@ -13,3 +13,4 @@ pub mod StretchLemmas
 pub mod WidthLemmas
 pub mod FirstChar
 pub mod SolidLemmas
+pub mod RowIndexLemmas

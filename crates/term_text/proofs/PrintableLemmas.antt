@@ -4,11 +4,6 @@ use Rattle.std.proofs.lemmas.Bool.Decides.{nat_tests}
 use Rattle.std.proofs.lemmas.List.{drop_more}
 use Rattle.term_text.specs.Cut.{leading_spaces, mark_of, mark_after}
 
-pub leading_spaces-le : (bs : List ℕ) → leading_spaces bs ≤ length bs
-unfolding leading_spaces
-leading_spaces-le [] = omega arith
-leading_spaces-le (b ∷ bs) = elim (b == 32) as (λ v. cond v (suc (leading_spaces bs)) 0 ≤ suc (length bs)) [ true ↦ omega (arith, leading_spaces-le bs) | false ↦ omega arith ]
-
 -- one step of the search for the end of the spaces
 pub leading_spaces-more : (bytes : List ℕ) (at : ℕ) → at < length bytes → get_or bytes at 0 ≡ 32
     → at + 1 + leading_spaces (drop (at + 1) bytes) ≡ at + leading_spaces (drop at bytes)

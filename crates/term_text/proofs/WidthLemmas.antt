@@ -1,5 +1,5 @@
 -- The columns of graphemes that begin with printable bytes or plain characters.
-use Rattle.std.proofs.Common.{◌≡◌, ◌↔◌, ℕ, zero, suc, ◌+◌, ◌<◌, ◌≤◌, max, List, [], ◌∷◌, ◌++◌, map, length, drop, refl, sym, ap, ◌∙◌, subst, arith}
+use Rattle.std.proofs.Common.{◌≡◌, ◌↔◌, ℕ, zero, suc, ◌+◌, ◌<◌, ◌≤◌, max, List, [], ◌∷◌, ◌++◌, map, length, drop, refl, sym, ap, subst, arith}
 use Rattle.term_text.specs.declared.style.Style.{Style}
 use Rattle.term_text.specs.declared.graphs.Graphemes.{Graphemes}
 use Rattle.term_text.specs.declared.line_graphs.LineGraphemes.{LineGraphemes}
@@ -67,10 +67,6 @@ widest-solid (suc (suc n)) (g ∷ gs) rest some h = let more = widest-solid (suc
 pub widest-cons : (gs rest : List Grapheme) (g : Grapheme) → gs ≡ g ∷ rest → widest gs ≡ max g.width (widest rest)
 unfolding widest
 widest-cons gs rest g e = ap widest e
-
-pub widest-none : (gs rest : List Grapheme) → gs ≡ [] → rest ≡ [] → widest gs ≡ max 0 (widest rest)
-unfolding widest
-widest-none gs rest none none' = ap widest none ∙ sym (ap (λ xs. max 0 (widest xs)) none')
 
 -- nothing is added at the end
 pub widest-end : (most : ℕ) (rest all : List Grapheme) → max most (widest rest) ≡ widest all → rest ≡ [] → most ≡ widest all

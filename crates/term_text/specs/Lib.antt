@@ -14,3 +14,4 @@ pub mod Rows
 pub mod Stack
 pub mod Walk
 pub mod Solid
+pub mod RowIndex

@@ -39,17 +39,23 @@ pub struct Counted {
     count: u64,
 }
 
+impl Model for Counted {
+    ghost Value = { ℕ };
+
+    ghost view = { λ counted. counted.count };
+}
+
 impl Counted {
     /// A count of 0.
     pub fn new() -> Counted
-        ensures { result.count ≡ 0 }
+        ensures { result ≡ 0 }
     {
         Counted { count: 0 }
     }
 
     /// The number of notes, or the greatest number if there were more.
     pub fn count(&self) -> u64
-        ensures { result ≡ self.now.count }
+        ensures { result ≡ self.now }
     {
         self.count
     }
@@ -58,15 +64,15 @@ impl Counted {
 impl Ledger for Counted {
     ghost use Rattle.term_text.specs.Counted.{counted_none, counted_sum};
 
-    ghost noted = { λ n a b. a.count < 2 ^ 64 → b.count ≡ min (a.count + n) (2 ^ 64 - 1) };
+    ghost noted = { λ n a b. a < 2 ^ 64 → b ≡ min (a + n) (2 ^ 64 - 1) };
 
     fn note(&mut self) {
         self.count = self.count.saturating_add(1);
     }
 
-    ghost noted_none = { λ a. counted_none a.count };
+    ghost noted_none = { λ a. counted_none a };
 
-    ghost noted_sum = { λ m n a b c p q. counted_sum m n a.count b.count c.count p q };
+    ghost noted_sum = { λ m n a b c p q. counted_sum m n a b c p q };
 }
 
 /// Steps that are noted in a ledger. A contract sees its ledger, and says by `noted` how many steps a call takes.

@@ -1,7 +1,7 @@
 // What the calls answer on examples.
 use crate::{
-    Color, Counted, CowStr, Cutter, Extent, Line, Modifier, NoSteps, Span, Stack, Steps, Style,
-    Text, end_length, first_end, next_line, next_line_of_bytes,
+    Color, Counted, CowStr, Cutter, Extent, Line, Modifier, NoSteps, RowIndex, Span, Stack, Steps,
+    Style, Text, end_length, first_end, next_line, next_line_of_bytes,
 };
 use std::alloc::{AllocError, Global};
 use std::test::Fail;
@@ -195,5 +195,22 @@ fn the_last_item_is_the_top(rt: HostRuntime) -> Result<(), Fail> {
         let mut cutter = Cutter::new(&line, 1);
         assert!(rt; cutter.next_row(&mut steps).is_some());
     }
+    Ok(())
+}
+
+#[test]
+fn rows_of_two_lines(rt: HostRuntime) -> Result<(), Fail> {
+    let alloc = rt.alloc();
+    let mut index = RowIndex::new(alloc);
+    assert_eq!(rt; (index.lines(), index.total()), (0, 0));
+    index.push(2)?;
+    index.push(3)?;
+    assert_eq!(rt; (index.lines(), index.total()), (2, 5));
+    let mut steps = Steps::new(Counted::new());
+    assert_eq!(rt; index.before(0, &mut steps), 0);
+    assert_eq!(rt; index.before(1, &mut steps), 2);
+    assert_eq!(rt; index.before(2, &mut steps), 5);
+    assert_eq!(rt; steps.ledger().count(), 3);
+    assert_eq!(rt; RowIndex::with_capacity(alloc, 2)?.lines(), 0);
     Ok(())
 }

@@ -1,15 +1,13 @@
 -- Areas, and what lies in them.
-use Rattle.std.proofs.Common.{◌≡◌, ℕ, suc, ◌+◌, ◌-◌, ◌^◌, ◌<◌, ◌≤◌, Bool, true, false, cond, nat_le, nat_lt, ◌==◌, ◌||◌, ◌&&◌, Option, refl, sym, ap, ap₂, ◌∙◌, arith}
+use Rattle.std.proofs.Common.{◌≡◌, ℕ, ◌+◌, ◌-◌, ◌^◌, ◌<◌, Bool, true, false, cond, nat_le, nat_lt, ◌==◌, ◌||◌, ◌&&◌, Option, ap, ◌∙◌, arith}
 use Rattle.std.proofs.Props.{props}
-use Rattle.std.proofs.lemmas.Bool.{and_parts}
 use Rattle.std.proofs.lemmas.Bool.Decides.{nat_tests}
-use Rattle.std.specs.Prelude.{max}
 use mathlib.Core.HLevel.{is_prop→PathP}
 use Rattle.term_core.specs.declared.rect.Rect.{Rect}
-use Rattle.term_core.specs.Rect.{has_place, is_empty, intersection, common_length}
+use Rattle.term_core.specs.Rect.{has_place, is_empty, intersection}
 use Rattle.term_core.specs.Buffers.{BufferView, cell_at, IsWithin}
 use Rattle.term_core.specs.Cells.{CellView}
-use Rattle.term_core.proofs.BufferLemmas.{IsIn, IsIn-from, has_place-from}
+use Rattle.term_core.proofs.BufferLemmas.{IsIn-from, has_place-from}
 use Rattle.term_core.proofs.RectLemmas.{has_place-intersection}
 
 -- rectangles with the same numbers are the same
@@ -47,9 +45,6 @@ and_false a b e = ap (λ t. t && b) e
 -- what is not in an area is not in that part
 pub has_place-outside : (r s : Rect) (x y : ℕ) → has_place r x y ≡ false → has_place (intersection r s) x y ≡ false
 has_place-outside r s x y e = has_place-intersection r s x y ∙ and_false (has_place r x y) (has_place s x y) e
-
-pub IsWithin-intersection : (r s : Rect) → IsWithin (intersection r s) s
-IsWithin-intersection r s x y e = (and_parts _ _ (sym (has_place-intersection r s x y) ∙ e)).1
 
 -- what changes only that part changes nothing outside the area
 pub stays_outside : (r s : Rect) (made : ℕ → ℕ → Option CellView) (old new : BufferView)

@@ -1,7 +1,6 @@
 -- How many halvings lead to one line.
 use Rattle.std.proofs.Common.{◌≡◌, ℕ, ◌+◌, ◌-◌, ◌*◌, ◌^◌, ◌<◌, ◌≤◌, sym, ap, subst, ◌∙◌, arith, add-one}
 use Rattle.std.proofs.Math.Nat.{mul-le-mul_left, mul_assoc, pow-suc}
-use Rattle.term_widgets.specs.Cuts.{IsHalving}
 
 -- so many notes were made while n lines were halved down to d
 pub record Halved {S : Type 0} (noted : ℕ → S → S → Type 0) (n d : ℕ) (old new : S) : Type 0 where
@@ -10,10 +9,6 @@ pub record Halved {S : Type 0} (noted : ℕ → S → S → Type 0) (n d : ℕ) 
   pub bound : 2 ^ count ≤ 2 * n + 1
   pub some : d < n → 1 ≤ count
   pub notes : noted count old new
-
--- at first there are all the lines
-pub halved-none : {S : Type 0} (noted : ℕ → S → S → Type 0) (n : ℕ) (a : S) → noted 0 a a → Halved noted n n a a
-halved-none noted n a none = record { count = 0; left = omega arith; bound = omega arith; some = λ lt. absurd (omega arith); notes = none }
 
 -- a power of two, and the next one
 double : (k : ℕ) → 2 ^ (k + 1) ≡ 2 ^ k * 2
@@ -43,7 +38,3 @@ halved-more noted sum n d e a b c two half before more =
       some = λ _. omega arith;
       notes = sum before.count 1 a b c before.notes more;
     }
-
--- down to one line
-pub IsHalving-from : {S : Type 0} (noted : ℕ → S → S → Type 0) (n d : ℕ) (a b : S) → d ≤ 1 → Halved noted n d a b → IsHalving noted n a b
-IsHalving-from noted n d a b one all = record { count = all.count; bound = all.bound; some = λ two. all.some (omega arith); notes = all.notes }

@@ -2,9 +2,9 @@
 ghost use Rattle.std.specs.Prelude.{◌≡◌, ◌+◌, ◌^◌, ◌<◌, ◌≤◌, [], ◌∷◌, ◌++◌, length, take, IfOk, OnOk, OnErr};
 ghost use Rattle.std.specs.List.{sum};
 
+use crate::steps::{Ledger, Steps};
 use std::alloc::{AllocError, Global};
 use std::marker::Model;
-use term_text::{Cutter, Ledger, Line, Steps};
 
 /// How many rows each of some lines has. It tells at once how many rows are before a line, and keeps a number a line.
 #[derive(Drop)]
@@ -15,7 +15,7 @@ pub struct RowIndex {
 
 impl Model for RowIndex {
     ghost use Rattle.std.specs.Prelude.{◌≡◌, ℕ, List, true};
-    ghost use Rattle.term_core.specs.RowIndex.{counts_after, rises};
+    ghost use Rattle.term_text.specs.RowIndex.{counts_after, rises};
 
     ghost Value = { List ℕ };
 
@@ -74,7 +74,7 @@ impl RowIndex {
         ensures rows { result ≡ sum (take line self.now) }
         ensures ticks { L.noted 1 steps.old steps.new }
     {
-        note_one(*self.ends.allocator(), steps);
+        steps.tick();
         self.rows_before(line)
     }
 
@@ -88,13 +88,4 @@ impl RowIndex {
         }
         self.ends[line - 1]
     }
-}
-
-/// Notes one step: that of the one row of a line without spans, since steps are noted by cutting rows alone.
-fn note_one<L: Ledger>(alloc: Global, steps: &mut Steps<L>)
-    ensures { L.noted 1 steps.old steps.new }
-{
-    let line = Line::new(alloc);
-    let mut cutter = Cutter::new(&line, 0);
-    let _row = cutter.next_row(steps);
 }

@@ -1,8 +1,8 @@
 use Rattle.std.proofs.Common.{◌≡◌, ◌-◌, suc, length, take, ap, sym, ◌∙◌, arith}
 use Rattle.std.specs.List.{sum}
-use Rattle.term_core.specs.RowIndex.{counts_after}
-use Rattle.term_core.proofs.RowIndexLemmas.{length-counts, sum-counts-first}
-use Rattle.term_core.proofs.row_index.RowIndex.rows_before.Goals as goal
+use Rattle.term_text.specs.RowIndex.{counts_after}
+use Rattle.term_text.proofs.RowIndexLemmas.{length-counts, sum-counts-first}
+use Rattle.term_text.proofs.row_index.RowIndex.rows_before.Goals as goal
 
 pub index-requires : goal.index-requires
 index-requires c =

@@ -1,7 +1,7 @@
 use Rattle.std.proofs.Common.{◌≡◌, length, take_all, ap, ◌∙◌, arith}
 use Rattle.std.specs.List.{sum}
-use Rattle.term_core.proofs.RowIndexLemmas.{length-counts}
-use Rattle.term_core.proofs.row_index.RowIndex.total.Goals as goal
+use Rattle.term_text.proofs.RowIndexLemmas.{length-counts}
+use Rattle.term_text.proofs.row_index.RowIndex.total.Goals as goal
 
 pub rows_before-requires : goal.rows_before-requires
 rows_before-requires c =

@@ -1,8 +1,8 @@
 use Rattle.std.proofs.Common.{◌≡◌, ◌+◌, ◌-◌, ◌++◌, ◌∷◌, [], ap, ap₂, sym, ◌∙◌, arith}
 use Rattle.std.specs.List.{sum}
-use Rattle.term_core.specs.RowIndex.{counts_after, rises}
-use Rattle.term_core.proofs.RowIndexLemmas.{counts_after-push, rises-push}
-use Rattle.term_core.proofs.row_index.RowIndex.push.Goals as goal
+use Rattle.term_text.specs.RowIndex.{counts_after, rises}
+use Rattle.term_text.proofs.RowIndexLemmas.{counts_after-push, rises-push}
+use Rattle.term_text.proofs.row_index.RowIndex.push.Goals as goal
 
 pub invariant_of-self-2 : goal.invariant_of-self-2
 invariant_of-self-2 c =

@@ -1,17 +1,10 @@
 -- The rows of lines, from how many there are up to the end of each line.
-use Rattle.std.proofs.Common.{◌≡◌, ℕ, zero, suc, ◌+◌, ◌-◌, ◌<◌, ◌≤◌, Bool, true, false, nat_le, ◌&&◌, List, [], ◌∷◌, ◌++◌, length, take, get_or, cond, Option, Some, None, refl, sym, ap, ap₂, subst, ◌∙◌, arith}
+use Rattle.std.proofs.Common.{◌≡◌, ℕ, zero, suc, ◌+◌, ◌-◌, ◌<◌, ◌≤◌, Bool, true, false, nat_le, ◌&&◌, List, [], ◌∷◌, ◌++◌, length, take, get_or, refl, sym, ap, ap₂, ◌∙◌, arith}
 use Rattle.std.specs.List.{sum}
-use Rattle.std.specs.Prelude.{is_some, MatchOption}
 use Rattle.std.proofs.lemmas.Bool.Decides.{nat_tests}
 use Rattle.std.proofs.lemmas.List.Sums.{sum_by-cons}
-use Rattle.term_text.specs.declared.cutter.Row.{Row}
-use Rattle.term_text.specs.Graph.{Grapheme, graphs, spans_graphs}
-use Rattle.term_text.specs.Rows.{row_graphs}
-use Rattle.term_text.specs.Text.{LineView}
-use Rattle.term_text.specs.Wrap.{NoneWider, wrap}
 use Rattle.term_text.proofs.CutLemmas.{le_of_test}
-use Rattle.term_text.proofs.WrapLemmas.{Narrow, NoneWider-from, wrap-fits}
-use Rattle.term_core.specs.RowIndex.{counts_after, rises}
+use Rattle.term_text.specs.RowIndex.{counts_after, rises}
 
 and_parts : (a b : Bool) → (a && b) ≡ true → (a ≡ true) × (b ≡ true)
 and_parts true b e = (refl, e)
@@ -72,31 +65,3 @@ rises-push before (first ∷ ends) end up le =
     let parts = rises-cons before first ends up in
     ap₂ (λ a b. a && b) (test_of_le before first parts.0)
     (rises-push first ends end parts.1 (omega (arith, sum-cons (first - before) (counts_after first ends))))
-
--- ---- the step of a probe
-
-no_graphs : (line : LineView) → line.spans ≡ [] → graphs line ≡ []
-unfolding spans_graphs
-no_graphs line e = ap (spans_graphs line.style) e
-
--- a line without spans fits each width
-pub blank_fits : (line : LineView) → line.spans ≡ [] → NoneWider 0 (graphs line)
-blank_fits line e = NoneWider-from 0 (graphs line) (subst (Narrow 0) (sym (no_graphs line e)) tt)
-
--- and has one row
-blank_row : (line : LineView) → line.spans ≡ [] → wrap 0 (graphs line) ≡ [] ∷ []
-blank_row line e = ap (wrap 0) (no_graphs line e) ∙ wrap-fits 0 [] (omega arith)
-
--- how many steps a call for the next row is
-abbrev steps : Option Row → ℕ
-steps o = cond (is_some o) 1 0
-
-some_row : (o : Option Row) (left after : List (List Grapheme)) → MatchOption o ((left ≡ []) × (after ≡ [])) (λ x. left ≡ row_graphs x ∷ after)
-    → left ≡ [] ∷ [] → steps o ≡ 1
-some_row None left after next one = absurd (let e = sym next.0 ∙ one in cc)
-some_row (Some x) left after next one = refl
-
--- so cutting it is one step
-pub one_step : (line : LineView) (o : Option Row) (left after : List (List Grapheme)) → line.spans ≡ [] → left ≡ wrap 0 (graphs line)
-    → MatchOption o ((left ≡ []) × (after ≡ [])) (λ x. left ≡ row_graphs x ∷ after) → steps o ≡ 1
-one_step line o left after e is next = some_row o left after next (is ∙ blank_row line e)

@@ -1,6 +1,6 @@
 use Rattle.std.proofs.Common.{ap}
-use Rattle.term_core.specs.RowIndex.{counts_after, rises}
-use Rattle.term_core.proofs.row_index.RowIndex.with_capacity.Goals as goal
+use Rattle.term_text.specs.RowIndex.{counts_after, rises}
+use Rattle.term_text.proofs.row_index.RowIndex.with_capacity.Goals as goal
 
 pub invariant_of-result : goal.invariant_of-result
 unfolding rises
