@@ -8,14 +8,18 @@ use Rattle.std.proofs.lemmas.Bool.{false≢true, cases_lt}
 use Rattle.std.proofs.lemmas.Bool.Decides.{nat_tests}
 use Rattle.std.proofs.lemmas.Str.{IsCharBoundary-start, IsCharBoundary-end, IsCharBoundary-before_ascii, IsCharBoundary-after_ascii}
 use Rattle.std.proofs.lemmas.List.{append-nil, length-map, take_all, take-map, drop-map, drop-take, get_or-drop, get_or-take, length-take-le, take-append-drop}
+use Rattle.std.proofs.lemmas.List.Folds.{list_all-map}
 use Rattle.term_text.specs.LineEnds.{is_one_line, ends_line}
 use Rattle.md_lines.proofs.LineLemmas.{is_one_line-drop, is_one_line-front}
 use Rattle.md_leaves.specs.Cuts.{IsPlace, IsText}
-use Rattle.md_runs.specs.Code.{spaced, is_space, is_padded, padding, code_text, first_line_end}
+use Rattle.md_runs.specs.Code.{spaced, is_space, counts_as_space, is_padded, padding, code_text, first_line_end}
 use Rattle.md_runs.proofs.Lists.{both-true, drop-drop}
 
 pub slice_index_spaced : (bs : List ℕ) (i : ℕ) → slice_index (map spaced bs) i ≡ spaced (slice_index bs i)
 slice_index_spaced bs i = get_or-map spaced bs i 0
+
+pub list_all_spaced : (bs : List ℕ) → list_all is_space (map spaced bs) ≡ list_all counts_as_space bs
+list_all_spaced bs = list_all-map is_space spaced bs
 
 -- a text up to its first line end, and behind it
 pub spaced-line : (bs : List ℕ) → first_line_end bs < length bs → map spaced bs ≡ take (first_line_end bs) bs ++ 32 ∷ map spaced (drop (first_line_end bs + 1) bs)
