@@ -11,7 +11,8 @@ pub fn inlines_are_good()
     ensures { (bodies : List (List ℕ)) → good_at (level_of level.Inlines) (inlines bodies) ≡ true }
 {}
 
-/// Links and images stand at most 32 deep in one another.
+/// Links and images stand at most 32 deep in one another; a link whose text is its destination, as one in angle brackets
+/// is, may stand in the innermost of them and is not counted.
 pub fn groups_are_few_deep()
     ensures { (bodies : List (List ℕ)) → groups_within 32 (inlines bodies) ≡ true }
 {}

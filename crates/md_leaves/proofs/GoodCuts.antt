@@ -11,6 +11,7 @@ use Rattle.term_text.specs.LineEnds.{ends_line}
 use Rattle.md_lines.specs.Blanks.{is_blank}
 use Rattle.md_leaves.specs.declared.cut.Cut.{Cut}
 use Rattle.md_leaves.specs.declared.leaf.Kind.TheVariants as kind
+use Rattle.md_leaves.specs.declared.leaf.Lone.TheVariants as lone
 use Rattle.md_leaves.specs.declared.leaf.Mark.{Mark}
 use Rattle.md_leaves.specs.Cuts.{IsText, IsCut}
 use Rattle.md_leaves.specs.Code.{is_tick, run_end, code_or_text, code}
@@ -82,7 +83,7 @@ module _ (source : List ℕ) (at : ℕ) (utf8 : IsUtf8 source) (start : IsCharBo
       is : get_or source (at + 1) 0 ≡ next
       is = sym (byte-at source at 1)
 
-      go : (other punctuation end : Bool) → is_ascii_punctuation next ≡ punctuation → ends_line next ≡ end → GoodIfAny source at (cond other None (cond punctuation (Some (let cut : Cut = record { kind = kind.Escape; more = 1 } in cut)) (cond end (Some (let cut : Cut = record { kind = kind.HardBreak; more = 1 } in cut)) None)))
+      go : (other punctuation end : Bool) → is_ascii_punctuation next ≡ punctuation → ends_line next ≡ end → GoodIfAny source at (cond other None (cond punctuation (Some (let cut : Cut = record { kind = kind.Lone lone.Escape; more = 1 } in cut)) (cond end (Some (let cut : Cut = record { kind = kind.Lone lone.HardBreak; more = 1 } in cut)) None)))
       go true punctuation end p e = tt
       go false true end p e =
           let some : 0 < next = grind (arith, nat_tests) in
@@ -100,7 +101,7 @@ module _ (source : List ℕ) (at : ℕ) (utf8 : IsUtf8 source) (start : IsCharBo
       n : ℕ
       n = prefix_len is_blank (drop at source)
 
-      break-good : (v : Bool) (m to : ℕ) → IsCut source (cond v kind.HardBreak kind.SoftBreak) m to
+      break-good : (v : Bool) (m to : ℕ) → IsCut source (cond v (kind.Lone lone.HardBreak) (kind.Lone lone.SoftBreak)) m to
       break-good true m to = tt
       break-good false m to = tt
 
@@ -171,7 +172,7 @@ module _ (source : List ℕ) (at : ℕ) (utf8 : IsUtf8 source) (start : IsCharBo
       place : (k : ℕ) → get_or (drop n (drop at source)) k 0 ≡ get_or source (at + n + k) 0
       place k = ap (λ x. get_or x k 0) (drop-drop n at source) ∙ get_or-drop (at + n) source k 0
 
-      found : (k : ℕ) → 0 < n → IsRunEnd n 0 (drop n (drop at source)) k → Good source at (record { kind = kind.Code n; more = n - 1 + k })
+      found : (k : ℕ) → 0 < n → IsRunEnd n 0 (drop n (drop at source)) k → Good source at (record { kind = kind.Lone (lone.Code n); more = n - 1 + k })
       found k some r =
           let room : n ≤ k = omega (arith, r.room) in
           let opens : IsCharBoundary source (at + n) = run-place source at n 96 utf8 lt (tick some) (omega arith) (omega arith) in
@@ -188,7 +189,7 @@ module _ (source : List ℕ) (at : ℕ) (utf8 : IsUtf8 source) (start : IsCharBo
             stop = subst (IsCharBoundary source) (let h : at + n + (k - 1) + 1 ≡ at + 1 + (n - 1 + k) = omega arith in h) outer;
           }
 
-      alone : 0 < n → Good source at (record { kind = kind.Text; more = n - 1 })
+      alone : 0 < n → Good source at (record { kind = kind.Lone lone.Text; more = n - 1 })
       alone some =
           let to : at + n ≡ at + 1 + (n - 1) = omega arith in
           record {

@@ -8,14 +8,17 @@ use Rattle.std.proofs.lemmas.Str.{IsCharBoundary-start, IsCharBoundary-end, IsCh
 use Rattle.term_text.specs.LineEnds.{ends_line}
 use Rattle.md_leaves.specs.declared.cut.Cut.{Cut}
 use Rattle.md_leaves.specs.Cuts.{AreLeaves}
+use Rattle.md_leaves.specs.Angles.{angle}
 use Rattle.md_leaves.specs.Code.{code}
+use Rattle.md_leaves.specs.Math.{math}
 use Rattle.md_leaves.specs.Closers.{closer}
 use Rattle.md_leaves.specs.Runs.{run}
-use Rattle.md_leaves.specs.Leaves.{cut_at, escape, line_end, opener, leaves, leaves_after, marked, or_text, text_length}
+use Rattle.md_leaves.specs.Leaves.{cut_at, escape, line_end, opener, reference, leaves, leaves_after, marked, or_text, text_length}
 use Rattle.md_leaves.proofs.TextLemmas.{always, marked-always, marked-letter}
 use Rattle.md_leaves.proofs.PlaceLemmas.{Clean, Clean-join, Clean-one, IsText-clean}
 use Rattle.md_leaves.proofs.GoodCuts.{Good, GoodIfAny, good-or, escape-good, line_end-good, opener-good, code-good, run-good}
 use Rattle.md_leaves.proofs.GoodClosers.{closer-good}
+use Rattle.md_leaves.proofs.GoodEnclosed.{angle-good, math-good, reference-good}
 
 marked-good : (source : List ℕ) (at : ℕ) → IsUtf8 source → IsCharBoundary source at → at < length source → GoodIfAny source at (marked source at (drop at source))
 marked-good source at utf8 start lt =
@@ -23,8 +26,11 @@ marked-good source at utf8 start lt =
     good-or source at (escape bs) _ (escape-good source at utf8 start)
     (good-or source at (line_end bs) _ (line_end-good source at utf8 start)
     (good-or source at (code bs) _ (code-good source at utf8 start lt)
+    (good-or source at (math bs) _ (math-good source at utf8 start)
+    (good-or source at (angle bs) _ (angle-good source at utf8 start)
+    (good-or source at (reference bs) _ (reference-good source at utf8 start)
     (good-or source at (opener bs) _ (opener-good source at utf8 start)
-    (good-or source at (closer at bs) (run source at bs) (closer-good source at utf8 start) (run-good source at utf8 start lt)))))
+    (good-or source at (closer at bs) (run source at bs) (closer-good source at utf8 start) (run-good source at utf8 start lt))))))))
 
 -- a rule fits at ASCII bytes alone
 marked-ascii : (source bs : List ℕ) (at b : ℕ) → is_some (marked source at (b ∷ bs)) ≡ true → b < 128

@@ -4,7 +4,9 @@ pub mod RunLemmas
 pub mod TextLemmas
 pub mod LeafLemmas
 pub mod PlaceLemmas
+pub mod MathLemmas
 pub mod GoodCuts
+pub mod GoodEnclosed
 pub mod GoodClosers
 pub mod GoodLeaves
 pub mod TickLemmas

@@ -3,6 +3,7 @@ use Rattle.std.specs.Prelude.{ℕ, suc, ◌+◌, ◌-◌, ◌==◌, Bool, if◌t
 use Rattle.std.specs.List.{prefix_len}
 use Rattle.std.specs.Option.{option_map}
 use Rattle.md_leaves.specs.declared.leaf.Kind.TheVariants as kind
+use Rattle.md_leaves.specs.declared.leaf.Lone.TheVariants as lone
 use Rattle.md_leaves.specs.declared.cut.Cut.{Cut}
 
 abbrev pub is_tick : ℕ → Bool
@@ -18,8 +19,8 @@ run_end n before (b ∷ bs) =
 
 -- n backticks with what stands behind them up to the end of the next n, or alone
 abbrev pub code_or_text : ℕ → Option ℕ → Cut
-code_or_text n (Some k) = record { kind = kind.Code n; more = n - 1 + k }
-code_or_text n None = record { kind = kind.Text; more = n - 1 }
+code_or_text n (Some k) = record { kind = kind.Lone (lone.Code n); more = n - 1 + k }
+code_or_text n None = record { kind = kind.Lone lone.Text; more = n - 1 }
 
 -- A maximal run of n backticks is code up to the first later maximal run of exactly n. Without one it is text, and taken
 -- whole, so that no code begins inside it.

@@ -1,5 +1,5 @@
 -- Leaves: what a source is cut into, from left to right.
-use Rattle.std.specs.Prelude.{ℕ, zero, suc, ◌+◌, ◌==◌, nat_le, false, true, not, ◌&&◌, is_some, if◌then◌else◌, Option, None, Some, List, [], ◌∷◌}
+use Rattle.std.specs.Prelude.{ℕ, zero, suc, ◌+◌, ◌==◌, nat_le, nat_lt, Bool, false, true, not, ◌&&◌, ◌||◌, is_some, if◌then◌else◌, Option, None, Some, List, [], ◌∷◌, drop}
 use Rattle.std.specs.List.{prefix_len, slice_index}
 use Rattle.std.specs.Option.{option_or}
 use Rattle.std.specs.Char.{is_ascii_punctuation}
@@ -7,9 +7,12 @@ use Rattle.term_text.specs.LineEnds.{ends_line}
 use Rattle.md_lines.specs.Blanks.{is_blank}
 use Rattle.md_leaves.specs.declared.leaf.Kind.{Kind}
 use Rattle.md_leaves.specs.declared.leaf.Kind.TheVariants as kind
+use Rattle.md_leaves.specs.declared.leaf.Lone.TheVariants as lone
 use Rattle.md_leaves.specs.declared.leaf.Leaf.{Leaf}
 use Rattle.md_leaves.specs.declared.cut.Cut.{Cut}
+use Rattle.md_leaves.specs.Angles.{angle}
 use Rattle.md_leaves.specs.Code.{code}
+use Rattle.md_leaves.specs.Math.{math}
 use Rattle.md_leaves.specs.Closers.{closer}
 use Rattle.md_leaves.specs.Runs.{run}
 
@@ -23,19 +26,30 @@ use Rattle.md_leaves.specs.Runs.{run}
 abbrev pub escape : List ℕ → Option Cut
 escape bs =
     if not (slice_index bs 0 == 92) then None
-    else if is_ascii_punctuation (slice_index bs 1) then Some (record { kind = kind.Escape; more = 1 })
-    else if ends_line (slice_index bs 1) then Some (record { kind = kind.HardBreak; more = 1 })
+    else if is_ascii_punctuation (slice_index bs 1) then Some (record { kind = kind.Lone lone.Escape; more = 1 })
+    else if ends_line (slice_index bs 1) then Some (record { kind = kind.Lone lone.HardBreak; more = 1 })
     else None
 
 -- the end of a line with so many blanks before it: a hard break with at least two, else a soft break
 abbrev pub break_of : ℕ → Kind
-break_of blanks = if nat_le 2 blanks then kind.HardBreak else kind.SoftBreak
+break_of blanks = if nat_le 2 blanks then (kind.Lone lone.HardBreak) else (kind.Lone lone.SoftBreak)
 
 -- the end of a line that is not the last, with the blanks before it
 abbrev pub line_end : List ℕ → Option Cut
 line_end bs =
     let n = prefix_len is_blank bs in
     if ends_line (slice_index bs n) then Some (record { kind = break_of n; more = n }) else None
+
+abbrev pub is_in_label : ℕ → Bool
+is_in_label b = not (((b == 91 || b == 93) || is_blank b) || ends_line b)
+
+-- `[^`, a label, which is one or more characters other than brackets, blanks and line ends, and `]` refer to a footnote
+abbrev pub reference : List ℕ → Option Cut
+reference bs =
+    let n = prefix_len is_in_label (drop 2 bs) in
+    if (slice_index bs 0 == 91 && slice_index bs 1 == 94) && (nat_lt 0 n && slice_index bs (n + 2) == 93)
+    then Some (record { kind = kind.Lone lone.FootnoteReference; more = n + 2 })
+    else None
 
 -- `![` is an image's opener, and `[` a link's
 abbrev pub opener : List ℕ → Option Cut
@@ -47,7 +61,12 @@ opener bs =
 -- the leaf at a place of the source by the first rule that fits, where one does; text is what is left
 abbrev pub marked : List ℕ → ℕ → List ℕ → Option Cut
 marked source at bs =
-    option_or (escape bs) (option_or (line_end bs) (option_or (code bs) (option_or (opener bs) (option_or (closer at bs) (run source at bs)))))
+    option_or (escape bs)
+    (option_or (line_end bs)
+    (option_or (code bs)
+    (option_or (math bs)
+    (option_or (angle bs)
+    (option_or (reference bs) (option_or (opener bs) (option_or (closer at bs) (run source at bs))))))))
 
 -- how many bytes of text follow: those up to the first place at which a rule fits
 unfoldable pub text_length : List ℕ → ℕ → List ℕ → ℕ
@@ -59,14 +78,14 @@ text_length source at (b ∷ bs) = if is_some (marked source at (b ∷ bs)) then
 -- places, and these leaves would touch. Texts that touch are one text.
 abbrev pub or_text : Option Cut → ℕ → Cut
 or_text (Some cut) n = cut
-or_text None n = record { kind = kind.Text; more = n }
+or_text None n = record { kind = kind.Lone lone.Text; more = n }
 
 -- the leaf at a place, in front of b and then bs
 abbrev pub cut_at : List ℕ → ℕ → ℕ → List ℕ → Cut
 cut_at source at b bs = or_text (marked source at (b ∷ bs)) (text_length source (at + 1) bs)
 
 abbrev pub first_cut : List ℕ → ℕ → List ℕ → Cut
-first_cut source at [] = record { kind = kind.Text; more = 0 }
+first_cut source at [] = record { kind = kind.Lone lone.Text; more = 0 }
 first_cut source at (b ∷ bs) = cut_at source at b bs
 
 -- the leaf that is cut at a place

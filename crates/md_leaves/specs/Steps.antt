@@ -3,7 +3,9 @@ use Rattle.std.specs.Prelude.{ℕ, ◌+◌, ◌==◌, nat_lt, Bool, not, ◌&&�
 use Rattle.std.specs.List.{prefix_len, slice_index}
 use Rattle.term_text.specs.LineEnds.{ends_line}
 use Rattle.md_lines.specs.Blanks.{is_blank}
+use Rattle.md_leaves.specs.Angles.{angle}
 use Rattle.md_leaves.specs.Code.{is_tick}
+use Rattle.md_leaves.specs.Math.{is_dollar}
 use Rattle.md_leaves.specs.Runs.{mark_of}
 use Rattle.md_leaves.specs.Leaves.{escape, opener}
 
@@ -19,5 +21,6 @@ text_step (b ∷ bs) =
     if is_blank b then (if ends_line (slice_index (b ∷ bs) n) then 0 else n)
     else if b == 92 then (if is_some (escape (b ∷ bs)) then 0 else 1)
     else if b == 33 then (if is_some (opener (b ∷ bs)) then 0 else 1)
-    else if (ends_line b || is_tick b) || ((b == 91 || b == 93) || is_some (mark_of b)) then 0
+    else if b == 60 then (if is_some (angle (b ∷ bs)) then 0 else 1)
+    else if ((ends_line b || is_tick b) || is_dollar b) || ((b == 91 || b == 93) || is_some (mark_of b)) then 0
     else 1 + prefix_len is_letter bs

@@ -2,8 +2,11 @@
 ghost use Rattle.std.specs.Prelude.{◌≡◌, ◌≤◌, ◌<◌, drop, length};
 ghost use Rattle.std.specs.List.{prefix_len, slice_index};
 ghost use Rattle.term_text.specs.LineEnds.{ends_line};
+ghost use Rattle.md_leaves.specs.Angles.{is_name_byte};
 ghost use Rattle.md_leaves.specs.Bytes.{holds};
 ghost use Rattle.md_leaves.specs.Closers.{is_in_angles, is_in_title};
+ghost use Rattle.md_leaves.specs.Leaves.{is_in_label};
+ghost use Rattle.md_leaves.specs.Math.{is_in_math};
 ghost use Rattle.md_leaves.specs.Steps.{is_letter};
 
 use md_lines::is_blank;
@@ -16,6 +19,12 @@ pub enum Class {
     Byte { of: u8 },
     InAngles,
     InTitle { quote: u8 },
+    /// Between two dollars.
+    InMath,
+    /// In the name of a tag.
+    InName,
+    /// In the label of a footnote.
+    InLabel,
     /// A letter or another byte that is text wherever it stands.
     Letter,
 }
@@ -29,6 +38,9 @@ impl Class {
             Class::Byte { of } => b == of,
             Class::InAngles => is_in_angles(b),
             Class::InTitle { quote } => is_in_title(quote, b),
+            Class::InMath => is_in_math(b),
+            Class::InName => is_name_byte(b),
+            Class::InLabel => is_in_label(b),
             Class::Letter => is_letter(b),
         }
     }
@@ -50,6 +62,24 @@ fn is_in_title(quote: u8, b: u8) -> bool
     ensures { result ≡ is_in_title quote b }
 {
     !(b == quote || ends_line(b))
+}
+
+fn is_in_math(b: u8) -> bool
+    ensures { result ≡ is_in_math b }
+{
+    !(b == b'$' || ends_line(b))
+}
+
+fn is_name_byte(b: u8) -> bool
+    ensures { result ≡ is_name_byte b }
+{
+    b.is_ascii_alphanumeric() || b == b'-'
+}
+
+fn is_in_label(b: u8) -> bool
+    ensures { result ≡ is_in_label b }
+{
+    !(b == b'[' || b == b']' || is_blank(b) || ends_line(b))
 }
 
 /// Whether a byte is LF or CR.

@@ -55,7 +55,7 @@ fn plain_length(bytes: &[u8], stop: usize) -> usize
 }
 
 /// A destination in angle brackets.
-fn angled(bytes: &[u8]) -> Option<Form>
+pub fn angled(bytes: &[u8]) -> Option<Form>
     ensures value { result ≡ angled bytes.now }
     ensures order { IfSome result (λ form. (form.from ≤ form.to) × (form.to ≤ form.all)) }
     ensures within { IfSome result (λ form. form.all ≤ length bytes.now) }

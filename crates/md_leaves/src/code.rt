@@ -6,7 +6,7 @@ ghost use Rattle.md_leaves.specs.Code.{code, code_or_text, is_tick, run_end};
 
 use crate::bytes::{Class, rest_of, stretch};
 use crate::cut::Cut;
-use crate::leaf::Kind;
+use crate::leaf::{Kind, Lone};
 use crate::ticks::TickRuns;
 use std::alloc::AllocError;
 
@@ -54,11 +54,11 @@ fn code_or_text(n: usize, end: Option<usize>) -> Cut
 {
     match end {
         Some(k) => Cut {
-            kind: Kind::Code { ticks: n },
+            kind: Kind::Lone(Lone::Code { ticks: n }),
             more: n - 1 + k,
         },
         None => Cut {
-            kind: Kind::Text,
+            kind: Kind::Lone(Lone::Text),
             more: n - 1,
         },
     }

@@ -5,12 +5,14 @@ ghost use Rattle.md_leaves.specs.Cuts.{AreLeaves};
 ghost use Rattle.md_leaves.specs.Leaves.{first_cut, leaves, marked, or_text, text_length};
 ghost use Rattle.md_leaves.specs.Steps.{text_step};
 
+use crate::angle::angle;
 use crate::bytes::{Class, byte_at, ends_line, rest_of, stretch};
 use crate::closer::closer;
 use crate::code::code;
-use crate::leaf::{Kind, Leaf};
+use crate::leaf::{Kind, Leaf, Lone};
+use crate::math::math;
 use crate::parens::Parens;
-use crate::rules::{escape, line_end, opener};
+use crate::rules::{escape, line_end, opener, reference};
 use crate::runs::run;
 use crate::ticks::TickRuns;
 use std::alloc::{AllocError, Global};
@@ -39,7 +41,8 @@ fn text_step(bytes: &[u8]) -> usize
         }
         b'\\' => !escape(bytes).is_some() as usize,
         b'!' => !opener(bytes).is_some() as usize,
-        b'\n' | b'\r' | b'`' | b'[' | b']' | b'*' | b'_' | b'~' | b'^' => 0,
+        b'<' => !angle(bytes).is_some() as usize,
+        b'\n' | b'\r' | b'`' | b'$' | b'[' | b']' | b'*' | b'_' | b'~' | b'^' => 0,
         _ => 1 + stretch(rest_of(bytes, 1), Class::Letter),
     }
 }
@@ -88,6 +91,15 @@ fn marked(source: &str, at: usize, ahead: &mut Ahead) -> Result<Option<Cut>, All
     if first == b']' {
         return closer(bytes, at, &mut ahead.parens);
     }
+    if first == b'$' {
+        return Ok(math(rest));
+    }
+    if first == b'<' {
+        return Ok(angle(rest));
+    }
+    if first == b'[' {
+        return Ok(reference(rest).or(opener(rest)));
+    }
     Ok(opener(rest).or(run(source, at)).or(line_end(rest)))
 }
 
@@ -98,7 +110,7 @@ fn or_text(cut: Option<Cut>, more: usize) -> Cut
     match cut {
         Some(cut) => cut,
         None => Cut {
-            kind: Kind::Text,
+            kind: Kind::Lone(Lone::Text),
             more,
         },
     }

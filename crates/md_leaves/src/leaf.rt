@@ -18,9 +18,9 @@ pub struct Target {
     pub to: usize,
 }
 
-/// What a leaf is.
+/// A leaf that stands for itself, whatever leaves stand beside it.
 #[derive(Clone, Copy)]
-pub enum Kind {
+pub enum Lone {
     /// Characters that stand for themselves.
     Text,
     /// A backslash and the punctuation behind it, which stands for itself.
@@ -28,9 +28,23 @@ pub enum Kind {
     SoftBreak,
     HardBreak,
     /// Code, with so many backticks at either side.
-    Code {
-        ticks: usize,
-    },
+    Code { ticks: usize },
+    /// Math between `$$` and `$$`, which may stand on several lines.
+    DisplayMath,
+    /// Math between `$` and `$`.
+    InlineMath,
+    /// A link in angle brackets, whose text is its destination.
+    Address,
+    /// An HTML tag.
+    Html,
+    /// `[^label]`.
+    FootnoteReference,
+}
+
+/// What a leaf is.
+#[derive(Clone, Copy)]
+pub enum Kind {
+    Lone(Lone),
     /// `[`, or `![` of an image.
     Opener {
         is_image: bool,

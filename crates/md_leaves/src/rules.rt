@@ -1,10 +1,10 @@
 // The rules of leaves that need no search: escapes, line ends and openers.
 ghost use Rattle.std.specs.Prelude.{◌≡◌, ◌<◌, length, IfSome};
-ghost use Rattle.md_leaves.specs.Leaves.{break_of, escape, line_end, opener};
+ghost use Rattle.md_leaves.specs.Leaves.{break_of, escape, line_end, opener, reference};
 
-use crate::bytes::{Class, byte_at, ends_line, stretch};
+use crate::bytes::{Class, byte_at, ends_line, rest_of, stretch};
 use crate::cut::Cut;
-use crate::leaf::Kind;
+use crate::leaf::{Kind, Lone};
 
 /// A backslash and ASCII punctuation, or a backslash and a line end.
 pub fn escape(bytes: &[u8]) -> Option<Cut>
@@ -17,12 +17,12 @@ pub fn escape(bytes: &[u8]) -> Option<Cut>
     let next = byte_at(bytes, 1);
     if next.is_ascii_punctuation() {
         Some(Cut {
-            kind: Kind::Escape,
+            kind: Kind::Lone(Lone::Escape),
             more: 1,
         })
     } else if ends_line(next) {
         Some(Cut {
-            kind: Kind::HardBreak,
+            kind: Kind::Lone(Lone::HardBreak),
             more: 1,
         })
     } else {
@@ -35,9 +35,9 @@ fn break_of(blanks: usize) -> Kind
     ensures { result ≡ break_of blanks }
 {
     if blanks >= 2 {
-        Kind::HardBreak
+        Kind::Lone(Lone::HardBreak)
     } else {
-        Kind::SoftBreak
+        Kind::Lone(Lone::SoftBreak)
     }
 }
 
@@ -51,6 +51,25 @@ pub fn line_end(bytes: &[u8]) -> Option<Cut>
         Some(Cut {
             kind: break_of(blanks),
             more: blanks,
+        })
+    } else {
+        None
+    }
+}
+
+/// `[^label]`.
+pub fn reference(bytes: &[u8]) -> Option<Cut>
+    ensures value { result ≡ reference bytes.now }
+    ensures within { IfSome result (λ cut. cut.more < length bytes.now) }
+{
+    if byte_at(bytes, 0) != b'[' || byte_at(bytes, 1) != b'^' {
+        return None;
+    }
+    let n = stretch(rest_of(bytes, 2), Class::InLabel);
+    if n > 0 && byte_at(bytes, n + 2) == b']' {
+        Some(Cut {
+            kind: Kind::Lone(Lone::FootnoteReference),
+            more: n + 2,
         })
     } else {
         None

@@ -11,7 +11,7 @@ use Rattle.md_leaves.specs.declared.leaf.Leaf as cut
 use Rattle.md_runs.specs.declared.pen.Place.{Place}
 use Rattle.md_runs.specs.Nest.{Inlines, Empty, Text, Leaf, Branch, nest}
 use Rattle.md_runs.specs.Texts.{bytes_at, touch, both, text_then, spelled, inlines_of}
-use Rattle.md_runs.specs.Levels.{is_group, groups_within, styles_within}
+use Rattle.md_runs.specs.Levels.{is_address, is_group, groups_within, styles_within}
 use Rattle.md_runs.proofs.Fits.{Fits, IsElement, HasRoom, inside_link, nest-fits}
 
 -- a test of nodes that a text in front passes
@@ -28,7 +28,7 @@ branch-good l t inside rest e f g =
     (and_both (good_at (place_inside (among_inlines l) t) inside) (good_at (place_after (among_inlines l) t) rest)
     (ap (λ p. good_at p inside) e.inside ∙ f) (ap (λ p. good_at p rest) e.after ∙ g))
 
-spelled-good : (source : List ℕ) (d v : ℕ) (l : Bool) (p : Option Place) (t : Inlines) → Fits d v l t → good_at (among_inlines l) (spelled source p t) ≡ true
+spelled-good : (source : List ℕ) (d v : ℕ) (l : Bool) (p : Option Place) (t : Inlines) → Fits source d v l t → good_at (among_inlines l) (spelled source p t) ≡ true
 unfolding spelled
 spelled-good source d v l p Empty h = text-passes (good_at (among_inlines l)) (λ e rest g. g) source p nodes.Empty refl
 spelled-good source d v l None (Text q rest) h = spelled-good source d v l (Some q) rest h
@@ -46,21 +46,23 @@ spelled-good source d v l p (Branch t inside rest) h =
 some : (n : ℕ) → 1 ≤ n → nat_lt 0 n ≡ true
 some n le = grind (arith, nat_tests)
 
-group-room : (d v : ℕ) (t : Tag) → HasRoom d v t → (not (is_group t) || nat_lt 0 d) ≡ true
-group-room d v t h = go (is_group t) refl
+group-room : (source : List ℕ) (d v : ℕ) (t : Tag) (inside : Inlines) → HasRoom source d v t inside
+    → ((is_address t (spelled source None inside) || not (is_group t)) || nat_lt 0 d) ≡ true
+group-room source d v t inside h = go (is_address t (spelled source None inside)) refl (is_group t) refl
   where
-    go : (b : Bool) → is_group t ≡ b → (not b || nat_lt 0 d) ≡ true
-    go true e = some d (h.group e)
-    go false e = refl
+    go : (a : Bool) → is_address t (spelled source None inside) ≡ a → (b : Bool) → is_group t ≡ b → ((a || not b) || nat_lt 0 d) ≡ true
+    go true n b e = refl
+    go false n true e = some d (h.group n e)
+    go false n false e = refl
 
-style-room : (d v : ℕ) (t : Tag) → HasRoom d v t → (is_group t || nat_lt 0 v) ≡ true
-style-room d v t h = go (is_group t) refl
+style-room : (source : List ℕ) (d v : ℕ) (t : Tag) (inside : Inlines) → HasRoom source d v t inside → (is_group t || nat_lt 0 v) ≡ true
+style-room source d v t inside h = go (is_group t) refl
   where
     go : (b : Bool) → is_group t ≡ b → (b || nat_lt 0 v) ≡ true
     go true e = refl
     go false e = some v (h.style e)
 
-spelled-groups : (source : List ℕ) (d v : ℕ) (l : Bool) (p : Option Place) (t : Inlines) → Fits d v l t → groups_within d (spelled source p t) ≡ true
+spelled-groups : (source : List ℕ) (d v : ℕ) (l : Bool) (p : Option Place) (t : Inlines) → Fits source d v l t → groups_within d (spelled source p t) ≡ true
 unfolding spelled
 spelled-groups source d v l p Empty h = text-passes (groups_within d) (λ e rest g. g) source p nodes.Empty refl
 spelled-groups source d v l None (Text q rest) h = spelled-groups source d v l (Some q) rest h
@@ -73,11 +75,11 @@ spelled-groups source d v l p (Leaf e rest) h =
 spelled-groups source d v l p (Branch t inside rest) h =
     let deep : ℕ = cond (is_group t) (d - 1) d in
     text-passes (groups_within d) (λ e rest g. g) source p (nodes.Branch t (spelled source None inside) (spelled source None rest))
-    (and_both ((not (is_group t) || nat_lt 0 d) && groups_within deep (spelled source None inside)) (groups_within d (spelled source None rest))
-    (and_both (not (is_group t) || nat_lt 0 d) (groups_within deep (spelled source None inside)) (group-room d v t h.1.0) (spelled-groups source deep (v - 1) (inside_link l t) None inside h.1.1.0))
+    (and_both (((is_address t (spelled source None inside) || not (is_group t)) || nat_lt 0 d) && groups_within deep (spelled source None inside)) (groups_within d (spelled source None rest))
+    (and_both ((is_address t (spelled source None inside) || not (is_group t)) || nat_lt 0 d) (groups_within deep (spelled source None inside)) (group-room source d v t inside h.1.0) (spelled-groups source deep (v - 1) (inside_link l t) None inside h.1.1.0))
     (spelled-groups source d v l None rest h.1.1.1))
 
-spelled-styles : (source : List ℕ) (d v : ℕ) (l : Bool) (p : Option Place) (t : Inlines) → Fits d v l t → styles_within v (spelled source p t) ≡ true
+spelled-styles : (source : List ℕ) (d v : ℕ) (l : Bool) (p : Option Place) (t : Inlines) → Fits source d v l t → styles_within v (spelled source p t) ≡ true
 unfolding spelled
 spelled-styles source d v l p Empty h = text-passes (styles_within v) (λ e rest g. g) source p nodes.Empty refl
 spelled-styles source d v l None (Text q rest) h = spelled-styles source d v l (Some q) rest h
@@ -90,7 +92,7 @@ spelled-styles source d v l p (Leaf e rest) h =
 spelled-styles source d v l p (Branch t inside rest) h =
     text-passes (styles_within v) (λ e rest g. g) source p (nodes.Branch t (spelled source None inside) (spelled source None rest))
     (and_both ((is_group t || nat_lt 0 v) && styles_within (v - 1) (spelled source None inside)) (styles_within v (spelled source None rest))
-    (and_both (is_group t || nat_lt 0 v) (styles_within (v - 1) (spelled source None inside)) (style-room d v t h.1.0) (spelled-styles source (cond (is_group t) (d - 1) d) (v - 1) (inside_link l t) None inside h.1.1.0))
+    (and_both (is_group t || nat_lt 0 v) (styles_within (v - 1) (spelled source None inside)) (style-room source d v t inside h.1.0) (spelled-styles source (cond (is_group t) (d - 1) d) (v - 1) (inside_link l t) None inside h.1.1.0))
     (spelled-styles source d v l None rest h.1.1.1))
 
 pub inlines_of-good : (source : List ℕ) (ls : List cut.Leaf) → good_at (among_inlines false) (inlines_of source ls) ≡ true

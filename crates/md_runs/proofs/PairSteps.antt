@@ -1,5 +1,5 @@
 -- Pairs one after another, and the steps that they are written in.
-use Rattle.std.proofs.Common.{List, [], ◌∷◌, ◌++◌, drop, ◌≡◌, ◌≤◌, ◌-◌, ◌==◌, ◌&&◌, ℕ, zero, suc, refl, sym, ap, subst, ◌∙◌, arith, Bool, true, false, cond, Option, Some, None, append_assoc}
+use Rattle.std.proofs.Common.{append-nil, List, [], ◌∷◌, ◌++◌, drop, ◌≡◌, ◌≤◌, ◌-◌, ◌==◌, ◌&&◌, ℕ, zero, suc, refl, sym, ap, subst, ◌∙◌, arith, Bool, true, false, cond, Option, Some, None, append_assoc}
 use Rattle.std.specs.Prelude.{nat_le}
 use Rattle.std.specs.List.{slice_range}
 use Rattle.std.proofs.lemmas.Bool.Decides.{nat_tests}
@@ -10,39 +10,41 @@ use Rattle.md_tree.specs.declared.event.TagEnd.TheVariants as tag_end
 use Rattle.md_tree.specs.Tree.{end_of}
 use Rattle.md_leaves.specs.declared.leaf.Kind.{Kind}
 use Rattle.md_leaves.specs.declared.leaf.Kind.TheVariants as kind
+use Rattle.md_leaves.specs.declared.leaf.Lone.{Lone}
+use Rattle.md_leaves.specs.declared.leaf.Lone.TheVariants as lone
 use Rattle.md_leaves.specs.declared.leaf.Leaf as cut
 use Rattle.md_leaves.specs.declared.leaf.Mark as run
 use Rattle.md_leaves.specs.declared.leaf.Mark.TheVariants as mark
 use Rattle.md_runs.specs.declared.pair.Pair.{Pair}
 use Rattle.md_runs.specs.Brackets.{Part, Single, Grouped}
 use Rattle.md_runs.specs.Pairs.{size, has_style, search, is_taken, pair_with, cost, pair_of, pair_at, between}
-use Rattle.md_runs.specs.Nest.{Inlines, Empty, Branch, stressed, styled, alone, group_tag, unpaired, pairs_after, pairs, inner, nest, parts_of}
-use Rattle.md_runs.specs.Marks.{Step, An, steps, stress_opened, opened, stress_closed, closed, alone_step}
+use Rattle.md_runs.specs.Nest.{Inlines, Empty, Branch, stressed, styled, alone, group_tag, lone_inline, unpaired, pairs_after, pairs, inner, nest, parts_of}
+use Rattle.md_runs.specs.Marks.{Step, An, steps, stress_opened, opened, stress_closed, closed, alone_steps, lone_steps}
 use Rattle.md_runs.proofs.Lists.{both-true}
 
-pub nest-parts : (source : List ℕ) (depth levels : ℕ) (in_link : Bool) (ls : List cut.Leaf) → nest source depth levels in_link ls ≡ pairs source (inner source depth in_link) levels (parts_of depth in_link ls)
+pub nest-parts : (source : List ℕ) (depth levels : ℕ) (in_link : Bool) (ls : List cut.Leaf) → nest source depth levels in_link ls ≡ pairs source in_link (inner source depth in_link) levels (parts_of depth in_link ls)
 unfolding nest
 nest-parts source zero levels in_link ls = refl
 nest-parts source (suc depth) levels in_link ls = refl
 
-pub pairs-none : (source : List ℕ) (inner : ℕ → Bool → List cut.Leaf → Inlines) (n : ℕ) → pairs source inner n [] ≡ Empty
+pub pairs-none : (source : List ℕ) (in_link : Bool) (inner : ℕ → Bool → List cut.Leaf → Inlines) (n : ℕ) → pairs source in_link inner n [] ≡ Empty
 unfolding pairs pairs_after
-pairs-none source inner zero = refl
-pairs-none source inner (suc zero) = refl
-pairs-none source inner (suc (suc m)) = refl
+pairs-none source in_link inner zero = refl
+pairs-none source in_link inner (suc zero) = refl
+pairs-none source in_link inner (suc (suc m)) = refl
 
 -- a part that begins no pair
-pub pairs-unpaired : (source : List ℕ) (inner : ℕ → Bool → List cut.Leaf → Inlines) (n : ℕ) (p : Part) (ps : List Part) → pair_at source n p ps ≡ None → pairs source inner n (p ∷ ps) ≡ unpaired source (inner (n - 1)) p (pairs source inner n ps)
+pub pairs-unpaired : (source : List ℕ) (in_link : Bool) (inner : ℕ → Bool → List cut.Leaf → Inlines) (n : ℕ) (p : Part) (ps : List Part) → pair_at source n p ps ≡ None → pairs source in_link inner n (p ∷ ps) ≡ unpaired source in_link (inner (n - 1)) p (pairs source in_link inner n ps)
 unfolding pairs pairs_after
-pairs-unpaired source inner zero p ps e = rw e (ap (λ k. unpaired source (inner k) p (pairs source inner zero ps)) (let z : 0 ≡ 0 - 1 = omega arith in z))
-pairs-unpaired source inner (suc zero) p ps e = rw e (ap (λ k. unpaired source (inner k) p (pairs source inner 1 ps)) (let z : 0 ≡ 1 - 1 = omega arith in z))
-pairs-unpaired source inner (suc (suc m)) p ps e = rw e (ap (λ k. unpaired source (inner k) p (pairs source inner (suc (suc m)) ps)) (let z : suc m ≡ suc (suc m) - 1 = omega arith in z))
+pairs-unpaired source in_link inner zero p ps e = rw e (ap (λ k. unpaired source in_link (inner k) p (pairs source in_link inner zero ps)) (let z : 0 ≡ 0 - 1 = omega arith in z))
+pairs-unpaired source in_link inner (suc zero) p ps e = rw e (ap (λ k. unpaired source in_link (inner k) p (pairs source in_link inner 1 ps)) (let z : 0 ≡ 1 - 1 = omega arith in z))
+pairs-unpaired source in_link inner (suc (suc m)) p ps e = rw e (ap (λ k. unpaired source in_link (inner k) p (pairs source in_link inner (suc (suc m)) ps)) (let z : suc m ≡ suc (suc m) - 1 = omega arith in z))
 
-after-skip : (source : List ℕ) (n : ℕ) (inner : Bool → List cut.Leaf → Inlines) (inside : ℕ → List Part → Inlines) (k : ℕ) (ps : List Part) → pairs_after source n inner inside k ps ≡ pairs_after source n inner inside 0 (drop k ps)
+after-skip : (source : List ℕ) (in_link : Bool) (n : ℕ) (inner : Bool → List cut.Leaf → Inlines) (inside : ℕ → List Part → Inlines) (k : ℕ) (ps : List Part) → pairs_after source in_link n inner inside k ps ≡ pairs_after source in_link n inner inside 0 (drop k ps)
 unfolding pairs_after
-after-skip source n inner inside zero ps = refl
-after-skip source n inner inside (suc k) [] = refl
-after-skip source n inner inside (suc k) (p ∷ ps) = after-skip source n inner inside k ps
+after-skip source in_link n inner inside zero ps = refl
+after-skip source in_link n inner inside (suc k) [] = refl
+after-skip source in_link n inner inside (suc k) (p ∷ ps) = after-skip source in_link n inner inside k ps
 
 cost-positive : (n : ℕ) → 1 ≤ cost n
 cost-positive n = elim (n == 3) as (λ v. 1 ≤ cond v 2 1) [ true ↦ omega arith | false ↦ omega arith ]
@@ -73,11 +75,7 @@ paired-with source levels m n from (Some k) ps q le s f e = go (is_taken source 
     go false t e = cc
 
 paired-of : (source : List ℕ) (levels : ℕ) (kind : Kind) (n to : ℕ) (ps : List Part) (q : Pair) → pair_of source levels kind n to ps ≡ Some q → Paired source levels ps q
-paired-of source levels kind.Text n to ps q e = cc
-paired-of source levels kind.Escape n to ps q e = cc
-paired-of source levels kind.SoftBreak n to ps q e = cc
-paired-of source levels kind.HardBreak n to ps q e = cc
-paired-of source levels (kind.Code ticks) n to ps q e = cc
+paired-of source levels (kind.Lone lone) n to ps q e = cc
 paired-of source levels (kind.Opener is_image) n to ps q e = cc
 paired-of source levels (kind.Closer target) n to ps q e = cc
 paired-of source levels (kind.Run m opens closes) n to ps q e =
@@ -93,20 +91,20 @@ paired source levels (Single l) ps q e = paired-of source levels l.kind (size l)
 paired source levels (Grouped is_image target ls) ps q e = cc
 
 -- a part and its partner are a pair
-pub pairs-pair : (source : List ℕ) (inner : ℕ → Bool → List cut.Leaf → Inlines) (n : ℕ) (p : Part) (ps : List Part) (q : Pair) → pair_at source n p ps ≡ Some q → pairs source inner n (p ∷ ps) ≡ styled q.mark q.size (pairs source inner (n - cost q.size) (between q.size q.more ps)) (pairs source inner n (drop (suc q.more) ps))
+pub pairs-pair : (source : List ℕ) (in_link : Bool) (inner : ℕ → Bool → List cut.Leaf → Inlines) (n : ℕ) (p : Part) (ps : List Part) (q : Pair) → pair_at source n p ps ≡ Some q → pairs source in_link inner n (p ∷ ps) ≡ styled q.mark q.size (pairs source in_link inner (n - cost q.size) (between q.size q.more ps)) (pairs source in_link inner n (drop (suc q.more) ps))
 unfolding pairs pairs_after
-pairs-pair source inner zero p ps q e = let d = paired source zero p ps q e in let l = d.enough in let c = d.some in absurd (omega arith)
-pairs-pair source inner (suc zero) p ps q e =
+pairs-pair source in_link inner zero p ps q e = let d = paired source zero p ps q e in let l = d.enough in let c = d.some in absurd (omega arith)
+pairs-pair source in_link inner (suc zero) p ps q e =
     let d = paired source 1 p ps q e in
     let l = d.enough in
     let c = d.some in
     let z : 0 ≡ 1 - cost q.size = omega arith in
-    rw e (ap (λ x. styled q.mark q.size (pairs source inner 0 (between q.size q.more ps)) x) (after-skip source 1 (λ i ls. inner 0 i ls) (λ n qs. pairs source inner zero qs) (suc q.more) ps) ∙ ap (λ j. styled q.mark q.size (pairs source inner j (between q.size q.more ps)) (pairs source inner 1 (drop (suc q.more) ps))) z)
-pairs-pair source inner (suc (suc m)) p ps q e =
+    rw e (ap (λ x. styled q.mark q.size (pairs source in_link inner 0 (between q.size q.more ps)) x) (after-skip source in_link 1 (λ i ls. inner 0 i ls) (λ n qs. pairs source in_link inner zero qs) (suc q.more) ps) ∙ ap (λ j. styled q.mark q.size (pairs source in_link inner j (between q.size q.more ps)) (pairs source in_link inner 1 (drop (suc q.more) ps))) z)
+pairs-pair source in_link inner (suc (suc m)) p ps q e =
     let X : List Part = between q.size q.more ps in
-    let inside : cond (q.size == 3) (pairs source inner m X) (pairs source inner (suc m) X) ≡ pairs source inner (suc (suc m) - cost q.size) X =
-    elim (q.size == 3) as (λ v. cond v (pairs source inner m X) (pairs source inner (suc m) X) ≡ pairs source inner (suc (suc m) - cond v 2 1) X) [ true ↦ ap (λ j. pairs source inner j X) (less_two m) | false ↦ ap (λ j. pairs source inner j X) (less_one m) ] in
-    rw e (ap (λ x. styled q.mark q.size (cond (q.size == 3) (pairs source inner m X) (pairs source inner (suc m) X)) x) (after-skip source (suc (suc m)) (λ i ls. inner (suc m) i ls) (λ n qs. cond (n == 3) (pairs source inner m qs) (pairs source inner (suc m) qs)) (suc q.more) ps) ∙ ap (λ y. styled q.mark q.size y (pairs source inner (suc (suc m)) (drop (suc q.more) ps))) inside)
+    let inside : cond (q.size == 3) (pairs source in_link inner m X) (pairs source in_link inner (suc m) X) ≡ pairs source in_link inner (suc (suc m) - cost q.size) X =
+    elim (q.size == 3) as (λ v. cond v (pairs source in_link inner m X) (pairs source in_link inner (suc m) X) ≡ pairs source in_link inner (suc (suc m) - cond v 2 1) X) [ true ↦ ap (λ j. pairs source in_link inner j X) (less_two m) | false ↦ ap (λ j. pairs source in_link inner j X) (less_one m) ] in
+    rw e (ap (λ x. styled q.mark q.size (cond (q.size == 3) (pairs source in_link inner m X) (pairs source in_link inner (suc m) X)) x) (after-skip source in_link (suc (suc m)) (λ i ls. inner (suc m) i ls) (λ n qs. cond (n == 3) (pairs source in_link inner m qs) (pairs source in_link inner (suc m) qs)) (suc q.more) ps) ∙ ap (λ y. styled q.mark q.size y (pairs source in_link inner (suc (suc m)) (drop (suc q.more) ps))) inside)
   where
     less_two : (m : ℕ) → m ≡ suc (suc m) - 2
     less_two m = omega arith
@@ -115,29 +113,43 @@ pairs-pair source inner (suc (suc m)) p ps q e =
     less_one m = omega arith
 
 -- what stands behind a part is written behind it
-alone-rest : (source : List ℕ) (k : Kind) (from to : ℕ) (rest : Inlines) → steps (alone source k from to rest) ≡ alone_step source k from to ∷ steps rest
+lone-rest : (source : List ℕ) (in_link : Bool) (l : Lone) (from to : ℕ) (rest : Inlines)
+    → steps (lone_inline source in_link l from to rest) ≡ lone_steps source in_link l from to ++ steps rest
 unfolding steps
-alone-rest source kind.Text from to rest = refl
-alone-rest source kind.Escape from to rest = refl
-alone-rest source kind.SoftBreak from to rest = refl
-alone-rest source kind.HardBreak from to rest = refl
-alone-rest source (kind.Code ticks) from to rest = refl
-alone-rest source (kind.Opener is_image) from to rest = refl
-alone-rest source (kind.Closer target) from to rest = refl
-alone-rest source (kind.Run m opens closes) from to rest = refl
+lone-rest source in_link lone.Text from to rest = refl
+lone-rest source in_link lone.Escape from to rest = refl
+lone-rest source in_link lone.SoftBreak from to rest = refl
+lone-rest source in_link lone.HardBreak from to rest = refl
+lone-rest source in_link (lone.Code ticks) from to rest = refl
+lone-rest source in_link lone.DisplayMath from to rest = refl
+lone-rest source in_link lone.InlineMath from to rest = refl
+lone-rest source true lone.Address from to rest = refl
+lone-rest source false lone.Address from to rest = refl
+lone-rest source in_link lone.Html from to rest = refl
+lone-rest source in_link lone.FootnoteReference from to rest = refl
 
-pub steps-alone : (source : List ℕ) (inner : Bool → List cut.Leaf → Inlines) (l : cut.Leaf) → steps (unpaired source inner (Single l) Empty) ≡ alone_step source l.kind l.from l.to ∷ []
+alone-rest : (source : List ℕ) (in_link : Bool) (k : Kind) (from to : ℕ) (rest : Inlines)
+    → steps (alone source in_link k from to rest) ≡ alone_steps source in_link k from to ++ steps rest
 unfolding steps
-steps-alone source inner l = alone-rest source l.kind l.from l.to Empty
+alone-rest source in_link (kind.Lone l) from to rest = lone-rest source in_link l from to rest
+alone-rest source in_link (kind.Opener is_image) from to rest = refl
+alone-rest source in_link (kind.Closer target) from to rest = refl
+alone-rest source in_link (kind.Run m opens closes) from to rest = refl
+
+pub steps-alone : (source : List ℕ) (in_link : Bool) (inner : Bool → List cut.Leaf → Inlines) (l : cut.Leaf)
+    → steps (unpaired source in_link inner (Single l) Empty) ≡ alone_steps source in_link l.kind l.from l.to
+unfolding steps
+steps-alone source in_link inner l =
+    alone-rest source in_link l.kind l.from l.to Empty ∙ append-nil (alone_steps source in_link l.kind l.from l.to)
 
 branch-rest : (t : tag.the_data) (inside rest : Inlines) → steps (Branch t inside rest) ≡ steps (Branch t inside Empty) ++ steps rest
 unfolding steps
 branch-rest t inside rest = ap (λ x. An (event.Start t) ∷ x) (sym (append_assoc (steps inside) (An (event.End (end_of t)) ∷ []) (steps rest)))
 
-pub unpaired-rest : (source : List ℕ) (inner : Bool → List cut.Leaf → Inlines) (p : Part) (rest : Inlines) → steps (unpaired source inner p rest) ≡ steps (unpaired source inner p Empty) ++ steps rest
+pub unpaired-rest : (source : List ℕ) (in_link : Bool) (inner : Bool → List cut.Leaf → Inlines) (p : Part) (rest : Inlines) → steps (unpaired source in_link inner p rest) ≡ steps (unpaired source in_link inner p Empty) ++ steps rest
 unfolding steps
-unpaired-rest source inner (Single l) rest = alone-rest source l.kind l.from l.to rest ∙ ap (λ x. x ++ steps rest) (sym (steps-alone source inner l))
-unpaired-rest source inner (Grouped is_image target ls) rest = branch-rest (group_tag is_image (slice_range source target.from target.to)) (inner is_image ls) rest
+unpaired-rest source in_link inner (Single l) rest = alone-rest source in_link l.kind l.from l.to rest ∙ ap (λ x. x ++ steps rest) (sym (steps-alone source in_link inner l))
+unpaired-rest source in_link inner (Grouped is_image target ls) rest = branch-rest (group_tag is_image (slice_range source target.from target.to)) (inner is_image ls) rest
 
 stressed-rest : (n : ℕ) (inside rest : Inlines) → steps (stressed n inside rest) ≡ steps (stressed n inside Empty) ++ steps rest
 stressed-rest n inside rest =

@@ -49,11 +49,7 @@ AreParts-singles source (l ∷ ls) h = (h.0, AreParts-singles source ls h.1)
 
 -- the destination of a closer among the leaves
 target-text : (source : List ℕ) (kind : Kind) (from to : ℕ) (t : Target) → target_of kind ≡ Some t → IsCut source kind from to → IsText source t.from t.to
-target-text source kind.Text from to t e h = cc
-target-text source kind.Escape from to t e h = cc
-target-text source kind.SoftBreak from to t e h = cc
-target-text source kind.HardBreak from to t e h = cc
-target-text source (kind.Code ticks) from to t e h = cc
+target-text source (kind.Lone lone) from to t e h = cc
 target-text source (kind.Opener is_image) from to t e h = cc
 target-text source (kind.Run m opens closes) from to t e h = cc
 target-text source (kind.Closer None) from to t e h = cc
@@ -76,11 +72,7 @@ group-text source is_image k ls (Some t) g f e h =
     subst (λ (x : Group). IsText source x.target.from x.target.to) same (first-text source k ls t f h)
 
 group-target : (source : List ℕ) (in_link : Bool) (kind : Kind) (c : Option ℕ) (ls : List Leaf) (g : Group) → group_of in_link kind c ls ≡ Some g → AreLeaves source ls → IsText source g.target.from g.target.to
-group-target source in_link kind.Text c ls g e h = cc
-group-target source in_link kind.Escape c ls g e h = cc
-group-target source in_link kind.SoftBreak c ls g e h = cc
-group-target source in_link kind.HardBreak c ls g e h = cc
-group-target source in_link (kind.Code ticks) c ls g e h = cc
+group-target source in_link (kind.Lone lone) c ls g e h = cc
 group-target source in_link (kind.Closer target) c ls g e h = cc
 group-target source in_link (kind.Run m opens closes) c ls g e h = cc
 group-target source in_link (kind.Opener is_image) None ls g e h = cc
@@ -124,11 +116,7 @@ size-fits mark.Caret n k e = same n k e
 
 -- what is left of a run may be cut as the run
 shorter : (source : List ℕ) (m : Mark) (n : ℕ) (kind : Kind) (from to : ℕ) → ends_search m n kind (to - from) ≡ true → IsCut source kind from to → IsCut source kind from (to - n)
-shorter source m n kind.Text from to e h = absurd (false≢true e)
-shorter source m n kind.Escape from to e h = absurd (false≢true e)
-shorter source m n kind.SoftBreak from to e h = absurd (false≢true e)
-shorter source m n kind.HardBreak from to e h = absurd (false≢true e)
-shorter source m n (kind.Code ticks) from to e h = absurd (false≢true e)
+shorter source m n (kind.Lone lone) from to e h = absurd (false≢true e)
 shorter source m n (kind.Opener is_image) from to e h = absurd (false≢true e)
 shorter source m n (kind.Closer target) from to e h = absurd (false≢true e)
 shorter source m n (kind.Run other opens closes) from to e h =

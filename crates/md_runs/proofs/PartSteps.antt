@@ -40,11 +40,7 @@ targeted is_image k (Some t) g e = (ap_more k (record { is_image = is_image; tar
     ap_more k h g e f = let same : h ≡ g = cc in ap (λ (x : Group). x.more) (sym same) ∙ f
 
 pub group-within : (in_link : Bool) (kind : Kind) (c : Option ℕ) (ls : List Leaf) (g : Group) → group_of in_link kind c ls ≡ Some g → g.more < length ls
-group-within in_link kind.Text c ls g e = cc
-group-within in_link kind.Escape c ls g e = cc
-group-within in_link kind.SoftBreak c ls g e = cc
-group-within in_link kind.HardBreak c ls g e = cc
-group-within in_link (kind.Code ticks) c ls g e = cc
+group-within in_link (kind.Lone lone) c ls g e = cc
 group-within in_link (kind.Closer target) c ls g e = cc
 group-within in_link (kind.Run mark opens closes) c ls g e = cc
 group-within in_link (kind.Opener is_image) None ls g e = cc

@@ -9,7 +9,7 @@ use Rattle.md_leaves.specs.Cuts.{IsLeaf, AreLeaves}
 use Rattle.md_runs.specs.Brackets.{Part, Single, is_opener, balance, group_of, parts, singles}
 use Rattle.md_runs.specs.Pairs.{size, pair_of}
 use Rattle.md_runs.specs.Nest.{Inlines, pairs, inner, nest, parts_of}
-use Rattle.md_runs.specs.Marks.{steps, alone_step}
+use Rattle.md_runs.specs.Marks.{steps, alone_steps}
 use Rattle.md_runs.specs.Plain.{begins_element, leaf_begins_element, leaf_is_opener, plain_steps}
 use Rattle.md_runs.proofs.PartSteps.{parts-none, parts-single}
 use Rattle.md_runs.proofs.PairSteps.{nest-parts, pairs-none, pairs-unpaired, unpaired-rest, steps-alone}
@@ -19,21 +19,13 @@ neither true b e = cc
 neither false b e = (refl, e)
 
 no-group : (l : Bool) (k : Kind) (c : Option ℕ) (ls : List cut.Leaf) → is_opener k ≡ false → group_of l k c ls ≡ None
-no-group l kind.Text c ls e = refl
-no-group l kind.Escape c ls e = refl
-no-group l kind.SoftBreak c ls e = refl
-no-group l kind.HardBreak c ls e = refl
-no-group l (kind.Code ticks) c ls e = refl
+no-group l (kind.Lone lone) c ls e = refl
 no-group l (kind.Opener i) c ls e = cc
 no-group l (kind.Closer target) c ls e = refl
 no-group l (kind.Run m opens closes) c ls e = refl
 
 no-pair : (source : List ℕ) (v : ℕ) (k : Kind) (n to : ℕ) (ps : List Part) → begins_element k ≡ false → pair_of source v k n to ps ≡ None
-no-pair source v kind.Text n to ps e = refl
-no-pair source v kind.Escape n to ps e = refl
-no-pair source v kind.SoftBreak n to ps e = refl
-no-pair source v kind.HardBreak n to ps e = refl
-no-pair source v (kind.Code ticks) n to ps e = refl
+no-pair source v (kind.Lone lone) n to ps e = refl
 no-pair source v (kind.Opener i) n to ps e = refl
 no-pair source v (kind.Closer target) n to ps e = refl
 no-pair source v (kind.Run m opens closes) n to ps e = rw e refl
@@ -49,11 +41,7 @@ parts_of-plain zero l ls e = refl
 parts_of-plain (suc d) l ls e = parts-plain l ls e
 
 no-opener : (k : Kind) → begins_element k ≡ false → is_opener k ≡ false
-no-opener kind.Text e = refl
-no-opener kind.Escape e = refl
-no-opener kind.SoftBreak e = refl
-no-opener kind.HardBreak e = refl
-no-opener (kind.Code ticks) e = refl
+no-opener (kind.Lone lone) e = refl
 no-opener (kind.Opener i) e = cc
 no-opener (kind.Closer target) e = refl
 no-opener (kind.Run m opens closes) e = refl
@@ -64,25 +52,27 @@ no-openers (leaf ∷ ls) e =
     let n = neither (begins_element leaf.kind) (list_any leaf_begins_element ls) e in
     rw (no-opener leaf.kind n.0) (no-openers ls n.1)
 
-pairs-plain : (source : List ℕ) (inner : ℕ → Bool → List cut.Leaf → Inlines) (v : ℕ) (ls : List cut.Leaf) → list_any leaf_begins_element ls ≡ false → steps (pairs source inner v (singles ls)) ≡ plain_steps source ls
+pairs-plain : (source : List ℕ) (l : Bool) (inner : ℕ → Bool → List cut.Leaf → Inlines) (v : ℕ) (ls : List cut.Leaf) → list_any leaf_begins_element ls ≡ false → steps (pairs source l inner v (singles ls)) ≡ plain_steps source l ls
 unfolding steps plain_steps
-pairs-plain source inner v [] e = ap steps (pairs-none source inner v)
-pairs-plain source inner v (leaf ∷ ls) e =
+pairs-plain source l inner v [] e = ap steps (pairs-none source l inner v)
+pairs-plain source l inner v (leaf ∷ ls) e =
     let n = neither (begins_element leaf.kind) (list_any leaf_begins_element ls) e in
-    ap steps (pairs-unpaired source inner v (Single leaf) (singles ls) (no-pair source v leaf.kind (size leaf) leaf.to (singles ls) n.0))
-    ∙ (unpaired-rest source (inner (v - 1)) (Single leaf) (pairs source inner v (singles ls))
-    ∙ (ap (λ x. x ++ steps (pairs source inner v (singles ls))) (steps-alone source (inner (v - 1)) leaf)
-    ∙ ap (λ x. alone_step source leaf.kind leaf.from leaf.to ∷ x) (pairs-plain source inner v ls n.1)))
+    ap steps (pairs-unpaired source l inner v (Single leaf) (singles ls) (no-pair source v leaf.kind (size leaf) leaf.to (singles ls) n.0))
+    ∙ (unpaired-rest source l (inner (v - 1)) (Single leaf) (pairs source l inner v (singles ls))
+    ∙ (ap (λ x. x ++ steps (pairs source l inner v (singles ls))) (steps-alone source l (inner (v - 1)) leaf)
+    ∙ ap (λ x. alone_steps source l leaf.kind leaf.from leaf.to ++ x) (pairs-plain source l inner v ls n.1)))
 
-pub steps-plain : (source : List ℕ) (d v : ℕ) (l : Bool) (ls : List cut.Leaf) → list_any leaf_begins_element ls ≡ false → steps (nest source d v l ls) ≡ plain_steps source ls
+pub steps-plain : (source : List ℕ) (d v : ℕ) (l : Bool) (ls : List cut.Leaf) → list_any leaf_begins_element ls ≡ false → steps (nest source d v l ls) ≡ plain_steps source l ls
 steps-plain source d v l ls e =
-    ap steps (nest-parts source d v l ls) ∙ (ap (λ ps. steps (pairs source (inner source d l) v ps)) (parts_of-plain d l ls (no-openers ls e)) ∙ pairs-plain source (inner source d l) v ls e)
+    ap steps (nest-parts source d v l ls) ∙ (ap (λ ps. steps (pairs source l (inner source d l) v ps)) (parts_of-plain d l ls (no-openers ls e)) ∙ pairs-plain source l (inner source d l) v ls e)
 
 pub AreLeaves-get : (source : List ℕ) (n : ℕ) (ls : List cut.Leaf) (d : cut.Leaf) → n < length ls → AreLeaves source ls → IsLeaf source (get_or ls n d)
 AreLeaves-get source n [] d lt h = absurd (omega arith)
 AreLeaves-get source zero (leaf ∷ ls) d lt h = h.0
 AreLeaves-get source (suc n) (leaf ∷ ls) d lt h = AreLeaves-get source n ls d (omega arith) h.1
 
-pub plain-step : (source : List ℕ) (at : ℕ) (ls : List cut.Leaf) (d : cut.Leaf) → at < length ls → plain_steps source (drop at ls) ≡ (alone_step source (get_or ls at d).kind (get_or ls at d).from (get_or ls at d).to ∷ []) ++ plain_steps source (drop (at + 1) ls)
+pub plain-step : (source : List ℕ) (l : Bool) (at : ℕ) (ls : List cut.Leaf) (d : cut.Leaf) → at < length ls
+    → plain_steps source l (drop at ls)
+    ≡ alone_steps source l (get_or ls at d).kind (get_or ls at d).from (get_or ls at d).to ++ plain_steps source l (drop (at + 1) ls)
 unfolding plain_steps
-plain-step source at ls d lt = ap (plain_steps source) (drop_more ls at d lt)
+plain-step source l at ls d lt = ap (plain_steps source l) (drop_more ls at d lt)

@@ -32,21 +32,21 @@ begins source n (p ∷ ps) q e =
       inside = λ a. AreParts-between source q.mark q.size q.more ps p h.found a.1;
     }
 
-pair-steps : (source : List ℕ) (inner : ℕ → Bool → List cut.Leaf → Inlines) (n : ℕ) (ps : List Part) (q : Pair) → first_pair source n ps ≡ Some q → steps (pairs source inner n ps) ≡ steps (styled q.mark q.size (pairs source inner (n - cost q.size) (between q.size q.more (drop 1 ps))) Empty) ++ steps (pairs source inner n (drop (q.more + 2) ps))
-pair-steps source inner n [] q e = cc
-pair-steps source inner n (p ∷ ps) q e =
-    let inside : Inlines = pairs source inner (n - cost q.size) (between q.size q.more ps) in
-    ap steps (pairs-pair source inner n p ps q e)
-    ∙ (styled-rest q.mark q.size inside (pairs source inner n (drop (suc q.more) ps))
-    ∙ ap (λ k. steps (styled q.mark q.size inside Empty) ++ steps (pairs source inner n (drop k (p ∷ ps)))) (let e : suc (suc q.more) ≡ q.more + 2 = omega arith in e))
+pair-steps : (source : List ℕ) (in_link : Bool) (inner : ℕ → Bool → List cut.Leaf → Inlines) (n : ℕ) (ps : List Part) (q : Pair) → first_pair source n ps ≡ Some q → steps (pairs source in_link inner n ps) ≡ steps (styled q.mark q.size (pairs source in_link inner (n - cost q.size) (between q.size q.more (drop 1 ps))) Empty) ++ steps (pairs source in_link inner n (drop (q.more + 2) ps))
+pair-steps source in_link inner n [] q e = cc
+pair-steps source in_link inner n (p ∷ ps) q e =
+    let inside : Inlines = pairs source in_link inner (n - cost q.size) (between q.size q.more ps) in
+    ap steps (pairs-pair source in_link inner n p ps q e)
+    ∙ (styled-rest q.mark q.size inside (pairs source in_link inner n (drop (suc q.more) ps))
+    ∙ ap (λ k. steps (styled q.mark q.size inside Empty) ++ steps (pairs source in_link inner n (drop k (p ∷ ps)))) (let e : suc (suc q.more) ≡ q.more + 2 = omega arith in e))
 
 -- the pair at a place
-pub pair-turn : (source : List ℕ) (inner : ℕ → Bool → List cut.Leaf → Inlines) (n at : ℕ) (ps : List Part) (q : Pair) → first_pair source n (take (length ps - at) (drop at ps)) ≡ Some q → steps (pairs source inner n (drop at ps)) ≡ steps (styled q.mark q.size (pairs source inner (n - cost q.size) (between q.size q.more (drop 1 (take (length ps - at) (drop at ps))))) Empty) ++ steps (pairs source inner n (drop (at + (q.more + 2)) ps))
-pair-turn source inner n at ps q e =
+pub pair-turn : (source : List ℕ) (in_link : Bool) (inner : ℕ → Bool → List cut.Leaf → Inlines) (n at : ℕ) (ps : List Part) (q : Pair) → first_pair source n (take (length ps - at) (drop at ps)) ≡ Some q → steps (pairs source in_link inner n (drop at ps)) ≡ steps (styled q.mark q.size (pairs source in_link inner (n - cost q.size) (between q.size q.more (drop 1 (take (length ps - at) (drop at ps))))) Empty) ++ steps (pairs source in_link inner n (drop (at + (q.more + 2)) ps))
+pair-turn source in_link inner n at ps q e =
     let rest = slice-rest at ps in
-    ap (λ x. steps (pairs source inner n x)) (sym rest)
-    ∙ (pair-steps source inner n (take (length ps - at) (drop at ps)) q e
-    ∙ ap (λ x. steps (styled q.mark q.size (pairs source inner (n - cost q.size) (between q.size q.more (drop 1 (take (length ps - at) (drop at ps))))) Empty) ++ steps (pairs source inner n x)) (ap (drop (q.more + 2)) rest ∙ sym (drop-drop (q.more + 2) at ps)))
+    ap (λ x. steps (pairs source in_link inner n x)) (sym rest)
+    ∙ (pair-steps source in_link inner n (take (length ps - at) (drop at ps)) q e
+    ∙ ap (λ x. steps (styled q.mark q.size (pairs source in_link inner (n - cost q.size) (between q.size q.more (drop 1 (take (length ps - at) (drop at ps))))) Empty) ++ steps (pairs source in_link inner n x)) (ap (drop (q.more + 2)) rest ∙ sym (drop-drop (q.more + 2) at ps)))
 
 pub pair-within : (source : List ℕ) (n at : ℕ) (ps : List Part) (q : Pair) → at ≤ length ps → first_pair source n (take (length ps - at) (drop at ps)) ≡ Some q → at + (q.more + 2) ≤ length ps
 pair-within source n at ps q le e =
@@ -55,13 +55,13 @@ pair-within source n at ps q le e =
     omega arith
 
 -- the part at a place that is in no pair
-pub part-turn : (source : List ℕ) (inner : ℕ → Bool → List cut.Leaf → Inlines) (n at : ℕ) (ps : List Part) (p : Part) → at < length ps → p ≡ get_or ps at p → first_pair source n (take (length ps - at) (drop at ps)) ≡ None → steps (pairs source inner n (drop at ps)) ≡ steps (unpaired source (inner (n - 1)) p Empty) ++ steps (pairs source inner n (drop (at + 1) ps))
-part-turn source inner n at ps p lt g e =
+pub part-turn : (source : List ℕ) (in_link : Bool) (inner : ℕ → Bool → List cut.Leaf → Inlines) (n at : ℕ) (ps : List Part) (p : Part) → at < length ps → p ≡ get_or ps at p → first_pair source n (take (length ps - at) (drop at ps)) ≡ None → steps (pairs source in_link inner n (drop at ps)) ≡ steps (unpaired source in_link (inner (n - 1)) p Empty) ++ steps (pairs source in_link inner n (drop (at + 1) ps))
+part-turn source in_link inner n at ps p lt g e =
     let here : drop at ps ≡ p ∷ drop (at + 1) ps = drop_more ps at p lt ∙ ap (λ x. x ∷ drop (at + 1) ps) (sym g) in
     let none : pair_at source n p (drop (at + 1) ps) ≡ None = ap (first_pair source n) (sym (slice-rest at ps ∙ here)) ∙ e in
-    ap (λ x. steps (pairs source inner n x)) here
-    ∙ (ap steps (pairs-unpaired source inner n p (drop (at + 1) ps) none) ∙ unpaired-rest source (inner (n - 1)) p (pairs source inner n (drop (at + 1) ps)))
+    ap (λ x. steps (pairs source in_link inner n x)) here
+    ∙ (ap steps (pairs-unpaired source in_link inner n p (drop (at + 1) ps) none) ∙ unpaired-rest source in_link (inner (n - 1)) p (pairs source in_link inner n (drop (at + 1) ps)))
 
-pub no-turn : (source : List ℕ) (inner : ℕ → Bool → List cut.Leaf → Inlines) (n at : ℕ) (ps : List Part) → length ps ≤ at → steps (pairs source inner n (drop at ps)) ≡ []
+pub no-turn : (source : List ℕ) (in_link : Bool) (inner : ℕ → Bool → List cut.Leaf → Inlines) (n at : ℕ) (ps : List Part) → length ps ≤ at → steps (pairs source in_link inner n (drop at ps)) ≡ []
 unfolding steps
-no-turn source inner n at ps le = ap (λ x. steps (pairs source inner n x)) (drop_of_length-le ps le) ∙ ap steps (pairs-none source inner n)
+no-turn source in_link inner n at ps le = ap (λ x. steps (pairs source in_link inner n x)) (drop_of_length-le ps le) ∙ ap steps (pairs-none source in_link inner n)

@@ -1,5 +1,5 @@
 -- Inlines as a list of texts and events.
-use Rattle.std.specs.Prelude.{ℕ, ◌+◌, ◌-◌, ◌==◌, if◌then◌else◌, Option, None, Some, List, [], ◌∷◌, ◌++◌}
+use Rattle.std.specs.Prelude.{ℕ, ◌+◌, ◌-◌, ◌==◌, Bool, true, false, if◌then◌else◌, Option, None, Some, List, [], ◌∷◌, ◌++◌}
 use Rattle.std.specs.List.{slice_range}
 use Rattle.md_tree.specs.declared.event.Event.{Event}
 use Rattle.md_tree.specs.declared.event.Event.TheVariants as event
@@ -8,6 +8,8 @@ use Rattle.md_tree.specs.declared.event.TagEnd.TheVariants as tag_end
 use Rattle.md_tree.specs.Tree.{end_of}
 use Rattle.md_leaves.specs.declared.leaf.Kind.{Kind}
 use Rattle.md_leaves.specs.declared.leaf.Kind.TheVariants as kind
+use Rattle.md_leaves.specs.declared.leaf.Lone.TheVariants as lone
+use Rattle.md_leaves.specs.declared.leaf.Lone.{Lone}
 use Rattle.md_leaves.specs.declared.leaf.Mark as run
 use Rattle.md_leaves.specs.declared.leaf.Mark.TheVariants as mark
 use Rattle.md_runs.specs.declared.pen.Place.{Place}
@@ -72,11 +74,27 @@ closed mark.Caret n = An (event.End tag_end.Superscript) ∷ []
 abbrev pub text_step : ℕ → ℕ → Step
 text_step from to = At (record { from = from; to = to })
 
+abbrev pub address_steps : List ℕ → ℕ → ℕ → List Step
+address_steps source from to =
+    An (event.Start (tag.Link (slice_range source from to))) ∷ text_step from to ∷ An (event.End tag_end.Link) ∷ []
+
+-- a leaf that stands for itself
+abbrev pub lone_steps : List ℕ → Bool → Lone → ℕ → ℕ → List Step
+lone_steps source in_link lone.Text from to = text_step from to ∷ []
+lone_steps source in_link lone.Escape from to = text_step (from + 1) to ∷ []
+lone_steps source in_link lone.SoftBreak from to = An event.SoftBreak ∷ []
+lone_steps source in_link lone.HardBreak from to = An event.HardBreak ∷ []
+lone_steps source in_link (lone.Code ticks) from to =
+    An (event.Code (code_text (slice_range source (from + ticks) (to - ticks)))) ∷ []
+lone_steps source in_link lone.DisplayMath from to = An (event.DisplayMath (slice_range source (from + 2) (to - 2))) ∷ []
+lone_steps source in_link lone.InlineMath from to = An (event.InlineMath (slice_range source (from + 1) (to - 1))) ∷ []
+lone_steps source true lone.Address from to = text_step from to ∷ []
+lone_steps source false lone.Address from to = address_steps source (from + 1) (to - 1)
+lone_steps source in_link lone.Html from to = An (event.InlineHtml (slice_range source from to)) ∷ []
+lone_steps source in_link lone.FootnoteReference from to =
+    An (event.FootnoteReference (slice_range source (from + 2) (to - 1))) ∷ []
+
 -- a leaf by itself
-abbrev pub alone_step : List ℕ → Kind → ℕ → ℕ → Step
-alone_step source kind.Escape from to = text_step (from + 1) to
-alone_step source kind.SoftBreak from to = An event.SoftBreak
-alone_step source kind.HardBreak from to = An event.HardBreak
-alone_step source (kind.Code ticks) from to =
-    An (event.Code (code_text (slice_range source (from + ticks) (to - ticks))))
-alone_step source _ from to = text_step from to
+abbrev pub alone_steps : List ℕ → Bool → Kind → ℕ → ℕ → List Step
+alone_steps source in_link (kind.Lone l) from to = lone_steps source in_link l from to
+alone_steps source in_link _ from to = text_step from to ∷ []

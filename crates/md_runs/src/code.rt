@@ -1,4 +1,4 @@
-// The text of code.
+// The texts of code and of math.
 ghost use Rattle.std.specs.Prelude.{◌≡◌, ◌+◌, ◌<◌, ◌≤◌, IfOk, length, map, slice_index, string_bytes};
 ghost use Rattle.std.specs.List.{slice_range, list_all};
 ghost use Rattle.std.specs.Str.{IsCharBoundary};
@@ -30,6 +30,27 @@ pub fn code_at<'a>(
         Ok(CowStr::borrowed(source.text_at(from + pad, to - pad, cursor)))
     } else {
         Ok(CowStr::owned(spaced(alloc, text, pad, text.len() - pad)?))
+    }
+}
+
+/// The text at a place; it borrows from the line if it stands on one.
+pub fn text_at<'a>(
+    alloc: Global,
+    source: &Source<'a, '_>,
+    from: usize,
+    to: usize,
+    cursor: &mut Cursor,
+) -> Result<CowStr<'a>, AllocError>
+    requires place { IsPlace source.now.text from to }
+    requires cursor { IsCursor source.now.bodies cursor.old }
+    ensures text { IfOk result (λ text. text ≡ slice_range source.now.text from to) }
+    ensures cursor { IsCursor source.now.bodies cursor.new }
+{
+    let text = source.slice(from, to);
+    if is_one_line(text.as_bytes()) {
+        Ok(CowStr::borrowed(source.text_at(from, to, cursor)))
+    } else {
+        Ok(CowStr::owned(String::from_str(alloc, text)?))
     }
 }
 

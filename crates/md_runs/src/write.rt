@@ -80,7 +80,7 @@ fn write_nest<'a>(
     ensures pen { OnOk result (IsPen source.now pen.new) }
 {
     if !has_beginning(leaves) {
-        write_plain(alloc, source, leaves, pen, out)?;
+        write_plain(alloc, source, leaves, level.in_link, pen, out)?;
         return Ok(());
     }
     let parts = parts_of(alloc, leaves, level)?;
@@ -100,7 +100,7 @@ fn write_parts<'a>(
 ) -> Result<(), AllocError>
     requires parts { AreParts source.now.text parts.now }
     requires pen { IsPen source.now pen.old }
-    ensures written { OnOk result ((ss : List Step) → out.new.items ++ joined source.now.text pen.new.pending ss ≡ out.old.items ++ joined source.now.text pen.old.pending (steps (pairs source.now.text (inner source.now.text level.depth level.in_link) level.levels parts.now) ++ ss)) }
+    ensures written { OnOk result ((ss : List Step) → out.new.items ++ joined source.now.text pen.new.pending ss ≡ out.old.items ++ joined source.now.text pen.old.pending (steps (pairs source.now.text level.in_link (inner source.now.text level.depth level.in_link) level.levels parts.now) ++ ss)) }
     ensures pen { OnOk result (IsPen source.now pen.new) }
 {
     let mut gone = Gone::new();
@@ -135,7 +135,7 @@ fn write_pair<'a>(
     requires pair { first_pair source.now.text level.levels parts.now ≡ Some pair }
     requires parts { AreParts source.now.text parts.now }
     requires pen { IsPen source.now pen.old }
-    ensures written { OnOk result ((ss : List Step) → out.new.items ++ joined source.now.text pen.new.pending ss ≡ out.old.items ++ joined source.now.text pen.old.pending (steps (styled pair.mark pair.size (pairs source.now.text (inner source.now.text level.depth level.in_link) (level.levels - cost pair.size) (between pair.size pair.more (drop 1 parts.now))) Empty) ++ ss)) }
+    ensures written { OnOk result ((ss : List Step) → out.new.items ++ joined source.now.text pen.new.pending ss ≡ out.old.items ++ joined source.now.text pen.old.pending (steps (styled pair.mark pair.size (pairs source.now.text level.in_link (inner source.now.text level.depth level.in_link) (level.levels - cost pair.size) (between pair.size pair.more (drop 1 parts.now))) Empty) ++ ss)) }
     ensures pen { OnOk result (IsPen source.now pen.new) }
 {
     let inside = between(alloc, pair.size, pair.more, &parts[1..])?;
@@ -161,11 +161,11 @@ fn write_part<'a>(
 ) -> Result<(), AllocError>
     requires part { IsPart source.now.text part.now }
     requires pen { IsPen source.now pen.old }
-    ensures written { OnOk result ((ss : List Step) → out.new.items ++ joined source.now.text pen.new.pending ss ≡ out.old.items ++ joined source.now.text pen.old.pending (steps (unpaired source.now.text (inner source.now.text level.depth level.in_link (level.levels - 1)) part.now Empty) ++ ss)) }
+    ensures written { OnOk result ((ss : List Step) → out.new.items ++ joined source.now.text pen.new.pending ss ≡ out.old.items ++ joined source.now.text pen.old.pending (steps (unpaired source.now.text level.in_link (inner source.now.text level.depth level.in_link (level.levels - 1)) part.now Empty) ++ ss)) }
     ensures pen { OnOk result (IsPen source.now pen.new) }
 {
     match part.group {
-        None => write_alone(alloc, source, part.leaf, pen, out)?,
+        None => write_alone(alloc, source, part.leaf, level.in_link, pen, out)?,
         Some(group) => write_group(
             alloc,
             source,
@@ -195,7 +195,7 @@ fn write_group<'a>(
     requires target { IsText source.now.text group.target.from group.target.to }
     requires leaves { AreLeaves source.now.text leaves.now }
     requires pen { IsPen source.now pen.old }
-    ensures written { OnOk result ((ss : List Step) → out.new.items ++ joined source.now.text pen.new.pending ss ≡ out.old.items ++ joined source.now.text pen.old.pending (steps (unpaired source.now.text (inner source.now.text level.depth level.in_link (level.levels - 1)) (Grouped group.is_image group.target leaves.now) Empty) ++ ss)) }
+    ensures written { OnOk result ((ss : List Step) → out.new.items ++ joined source.now.text pen.new.pending ss ≡ out.old.items ++ joined source.now.text pen.old.pending (steps (unpaired source.now.text level.in_link (inner source.now.text level.depth level.in_link (level.levels - 1)) (Grouped group.is_image group.target leaves.now) Empty) ++ ss)) }
     ensures pen { OnOk result (IsPen source.now pen.new) }
 {
     open_group(source, opener, group.is_image, group.target, pen, out)?;

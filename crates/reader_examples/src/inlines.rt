@@ -29,6 +29,22 @@ fn show(event: &Event, shown: &mut String) -> Result<(), AllocError> {
             let text = text.as_str();
             write!(shown, "`{text}`")
         }
+        Event::InlineMath(text) => {
+            let text = text.as_str();
+            write!(shown, "m({text})")
+        }
+        Event::DisplayMath(text) => {
+            let text = text.as_str();
+            write!(shown, "d({text})")
+        }
+        Event::InlineHtml(text) => {
+            let text = text.as_str();
+            write!(shown, "h({text})")
+        }
+        Event::FootnoteReference(text) => {
+            let text = text.as_str();
+            write!(shown, "f({text})")
+        }
         Event::SoftBreak => shown.push_str("/"),
         Event::HardBreak => shown.push_str("|"),
         Event::Start(tag) => show_start(tag, shown),
@@ -127,6 +143,41 @@ fn an_opener_is_a_link_if_its_balancing_closer_has_a_destination(
 fn texts_are_one_where_they_touch(rt: HostRuntime) -> Result<(), Fail> {
     let cases = [("a\\*b", "(a)(*b)"), ("a*b]c", "(a*b]c)")];
     compare(&rt, rt.alloc(), &cases)?;
+    Ok(())
+}
+
+#[test]
+fn leaves_with_texts_of_their_own(rt: HostRuntime) -> Result<(), Fail> {
+    compare(
+        &rt,
+        rt.alloc(),
+        &[
+            ("a $b$ $5", "(a )m(b)( $5)"),
+            ("$$a  \n b$$ c", "d(a  \nb)( c)"),
+            ("a<b c>[^d]", "(a)h(<b c>)f(d)"),
+            ("*<b>* $*$ *", "e{h(<b>)}( )m(*)( *)"),
+        ],
+    )?;
+    Ok(())
+}
+
+#[test]
+fn an_address_is_a_link_outside_links(rt: HostRuntime) -> Result<(), Fail> {
+    compare(
+        &rt,
+        rt.alloc(),
+        &[
+            ("a<http://b>c", "(a)a<http://b>{(http://b)}(c)"),
+            ("*<mailto:b>*", "e{a<mailto:b>{(mailto:b)}}"),
+            (
+                "[a <http:b> *<http:c>*](d)",
+                "a<d>{(a <http:b> )e{(<http:c>)}}",
+            ),
+            ("![a<http:b>](c)", "i<c>{(a)a<http:b>{(http:b)}}"),
+            ("[![<http:a>](b)](c)", "a<c>{i<b>{(<http:a>)}}"),
+            ("[a<http:b>", "([a)a<http:b>{(http:b)}"),
+        ],
+    )?;
     Ok(())
 }
 

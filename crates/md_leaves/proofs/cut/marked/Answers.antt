@@ -13,9 +13,9 @@ returns-clause-value c =
     let rest = c.rest_of-rest.ensures ∙ ap (drop at) c.as_bytes-bytes.ensures.value in
     let first : get_or source at 0 ≡ get_or c.as_bytes-bytes.result.now at 0 = ap (λ x. get_or x at 0) (sym c.as_bytes-bytes.ensures.value) in
     let others : Option Cut = option_or (opener (drop at source)) (run source at (drop at source)) in
-    let found : c.or.result ≡ others =
-    c.or.ensures ∙ (ap (λ o. option_or o c.run.result) (c.opener.ensures.value ∙ ap opener rest) ∙ ap (option_or (opener (drop at source))) c.run.ensures.value) in
-    c.or-2.ensures
+    let found : c.or-2.result ≡ others =
+    c.or-2.ensures ∙ (ap (λ o. option_or o c.run.result) (c.opener-2.ensures.value ∙ ap opener rest) ∙ ap (option_or (opener (drop at source))) c.run.ensures.value) in
+    c.or-3.ensures
     ∙ (ap (λ o. option_or o c.line_end.result) found
     ∙ (ap (option_or others) (c.line_end.ensures.value ∙ ap line_end rest)
-    ∙ sym (marked-rest source at _ c.requires.within first c.if-first-eq92.false c.if-first-eq96.false c.if-first-eq93.false)))
+    ∙ sym (marked-rest source at _ c.requires.within first c.if-first-eq92.false c.if-first-eq96.false c.if-first-eq93.false c.if-first-eq36.false c.if-first-eq60.false c.if-first-eq91.false)))

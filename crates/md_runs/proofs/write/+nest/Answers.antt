@@ -29,7 +29,7 @@ write_nest-returns-clause-written t c = λ ss.
     let parts : c.as_slice.result.now ≡ parts_of c.args.level.depth c.args.level.in_link c.args.leaves.now = c.as_slice.ensures.value ∙ c.in_ok-parts.ensures in
     c.in_ok-write_parts.ensures.written ss
     ∙ ap (λ x. c.args.out.now.items ++ joined c.args.source.now.text c.args.pen.now.pending (steps x ++ ss))
-    (ap (pairs c.args.source.now.text (inner c.args.source.now.text c.args.level.depth c.args.level.in_link) c.args.level.levels) parts
+    (ap (pairs c.args.source.now.text c.args.level.in_link (inner c.args.source.now.text c.args.level.depth c.args.level.in_link) c.args.level.levels) parts
     ∙ sym (nest-parts c.args.source.now.text c.args.level.depth c.args.level.levels c.args.level.in_link c.args.leaves.now))
 
 pub write_pair-between-requires : goal.write_pair-between-requires
@@ -60,13 +60,13 @@ write_pair-returns-clause-written t c =
     (λ ss. c.write_parts.new.out.items ++ joined c.args.source.now.text c.write_parts.new.pen.pending ss)
     (λ ss. c.close.new.out.items ++ joined c.args.source.now.text c.close.new.pen.pending ss)
     (opened c.args.pair.mark c.args.pair.size)
-    (steps (pairs c.args.source.now.text (inner c.args.source.now.text c.args.level.depth c.args.level.in_link) (c.args.level.levels - cost c.args.pair.size) (between c.args.pair.size c.args.pair.more (drop 1 c.args.parts.now))))
+    (steps (pairs c.args.source.now.text c.args.level.in_link (inner c.args.source.now.text c.args.level.depth c.args.level.in_link) (c.args.level.levels - cost c.args.pair.size) (between c.args.pair.size c.args.pair.more (drop 1 c.args.parts.now))))
     (closed c.args.pair.mark c.args.pair.size) _
     (steps-styled c.args.pair.mark c.args.pair.size _)
     c.in_ok-open.ensures.written
     (λ ss. c.in_ok-write_parts.ensures.written ss
-    ∙ (ap (λ j. c.open.new.out.items ++ joined c.args.source.now.text c.open.new.pen.pending (steps (pairs c.args.source.now.text (inner c.args.source.now.text c.args.level.depth c.args.level.in_link) (c.args.level.levels - j) c.as_slice.result.now) ++ ss)) c.cost.ensures
-    ∙ ap (λ x. c.open.new.out.items ++ joined c.args.source.now.text c.open.new.pen.pending (steps (pairs c.args.source.now.text (inner c.args.source.now.text c.args.level.depth c.args.level.in_link) (c.args.level.levels - cost c.args.pair.size) x) ++ ss)) inside))
+    ∙ (ap (λ j. c.open.new.out.items ++ joined c.args.source.now.text c.open.new.pen.pending (steps (pairs c.args.source.now.text c.args.level.in_link (inner c.args.source.now.text c.args.level.depth c.args.level.in_link) (c.args.level.levels - j) c.as_slice.result.now) ++ ss)) c.cost.ensures
+    ∙ ap (λ x. c.open.new.out.items ++ joined c.args.source.now.text c.open.new.pen.pending (steps (pairs c.args.source.now.text c.args.level.in_link (inner c.args.source.now.text c.args.level.depth c.args.level.in_link) (c.args.level.levels - cost c.args.pair.size) x) ++ ss)) inside))
     c.in_ok-close.ensures.written
 
 pub write_parts-first_pair-requires-clause-gone : goal.write_parts-first_pair-requires-clause-gone
@@ -98,7 +98,7 @@ write_parts-loop-at-preserved-in-Some t c =
           (λ ss. c.write_pair.new.out.items ++ joined c.args.source.now.text c.write_pair.new.pen.pending ss)
           (λ ss. c.args.out.now.items ++ joined c.args.source.now.text c.args.pen.now.pending ss)
           _ _ _ _
-          (pair-turn c.args.source.now.text (inner c.args.source.now.text c.args.level.depth c.args.level.in_link) c.args.level.levels c.loop-at.at c.args.parts.now c.in-Some.pair (sym c.in-Some.ensures.value))
+          (pair-turn c.args.source.now.text c.args.level.in_link (inner c.args.source.now.text c.args.level.depth c.args.level.in_link) c.args.level.levels c.loop-at.at c.args.parts.now c.in-Some.pair (sym c.in-Some.ensures.value))
           c.in_ok-write_pair-in-Some.ensures.written
           c.loop-at.invariant.written;
     }
@@ -117,7 +117,7 @@ write_parts-loop-at-preserved t c = record {
       (λ ss. c.write_part.new.out.items ++ joined c.args.source.now.text c.write_part.new.pen.pending ss)
       (λ ss. c.args.out.now.items ++ joined c.args.source.now.text c.args.pen.now.pending ss)
       _ _ _ _
-      (part-turn c.args.source.now.text (inner c.args.source.now.text c.args.level.depth c.args.level.in_link) c.args.level.levels c.loop-at.at c.args.parts.now c.index-parts-at.result c.loop-at-test.true c.index-parts-at.is (sym c.in-None.ensures.value))
+      (part-turn c.args.source.now.text c.args.level.in_link (inner c.args.source.now.text c.args.level.depth c.args.level.in_link) c.args.level.levels c.loop-at.at c.args.parts.now c.index-parts-at.result c.loop-at-test.true c.index-parts-at.is (sym c.in-None.ensures.value))
       c.in_ok-write_part-in-None.ensures.written
       c.loop-at.invariant.written;
 }
@@ -125,15 +125,15 @@ write_parts-loop-at-preserved t c = record {
 pub write_parts-returns-clause-written : goal.write_parts-returns-clause-written
 write_parts-returns-clause-written t c = λ ss.
     ap (λ x. c.loop-at.out.items ++ joined c.args.source.now.text c.loop-at.pen.pending (x ++ ss))
-    (sym (no-turn c.args.source.now.text (inner c.args.source.now.text c.args.level.depth c.args.level.in_link) c.args.level.levels c.loop-at.at c.args.parts.now c.loop-at-test.false))
+    (sym (no-turn c.args.source.now.text c.args.level.in_link (inner c.args.source.now.text c.args.level.depth c.args.level.in_link) c.args.level.levels c.loop-at.at c.args.parts.now c.loop-at-test.false))
     ∙ c.loop-at.invariant.written ss
 
 pub write_part-returns-in_ok-write_alone-in-None-clause-written : goal.write_part-returns-in_ok-write_alone-in-None-clause-written
 write_part-returns-in_ok-write_alone-in-None-clause-written t c = λ ss.
     let here : Single c.part.inside.leaf ≡ c.args.part.now = ap (λ o. part_of c.part.inside.leaf o c.part.inside.inside.now) (sym c.in-None.is) ∙ c.part.view_is in
     c.in_ok-write_alone-in-None.ensures.written ss
-    ∙ (ap (λ x. c.args.out.now.items ++ joined c.args.source.now.text c.args.pen.now.pending (x ++ ss)) (sym (steps-alone c.args.source.now.text (inner c.args.source.now.text c.args.level.depth c.args.level.in_link (c.args.level.levels - 1)) c.part.inside.leaf))
-    ∙ ap (λ p. c.args.out.now.items ++ joined c.args.source.now.text c.args.pen.now.pending (steps (unpaired c.args.source.now.text (inner c.args.source.now.text c.args.level.depth c.args.level.in_link (c.args.level.levels - 1)) p Empty) ++ ss)) here)
+    ∙ (ap (λ x. c.args.out.now.items ++ joined c.args.source.now.text c.args.pen.now.pending (x ++ ss)) (sym (steps-alone c.args.source.now.text c.args.level.in_link (inner c.args.source.now.text c.args.level.depth c.args.level.in_link (c.args.level.levels - 1)) c.part.inside.leaf))
+    ∙ ap (λ p. c.args.out.now.items ++ joined c.args.source.now.text c.args.pen.now.pending (steps (unpaired c.args.source.now.text c.args.level.in_link (inner c.args.source.now.text c.args.level.depth c.args.level.in_link (c.args.level.levels - 1)) p Empty) ++ ss)) here)
 
 pub write_group-returns-clause-written : goal.write_group-returns-clause-written
 write_group-returns-clause-written t c =

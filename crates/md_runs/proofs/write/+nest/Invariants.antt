@@ -28,7 +28,7 @@ invariant-write_parts-loop-at l = record {
   within : l.at ≤ length l.parts;
   gone : IsGone l.gone (drop l.at l.parts);
   pen : IsPen l.source l.pen;
-  written : (ss : List Step) → l.out.items ++ joined l.source.text l.pen.pending (steps (pairs l.source.text (inner l.source.text l.level.depth l.level.in_link) l.level.levels (drop l.at l.parts)) ++ ss) ≡ l.fn.out.items ++ joined l.source.text l.fn.pen.pending (steps (pairs l.source.text (inner l.source.text l.level.depth l.level.in_link) l.level.levels l.parts) ++ ss);
+  written : (ss : List Step) → l.out.items ++ joined l.source.text l.pen.pending (steps (pairs l.source.text l.level.in_link (inner l.source.text l.level.depth l.level.in_link) l.level.levels (drop l.at l.parts)) ++ ss) ≡ l.fn.out.items ++ joined l.source.text l.fn.pen.pending (steps (pairs l.source.text l.level.in_link (inner l.source.text l.level.depth l.level.in_link) l.level.levels l.parts) ++ ss);
 }
 
 abbrev pub decreases-write_parts-loop-at : goal.decreases-write_parts-loop-at
