@@ -3,6 +3,8 @@
 
 mod environment;
 mod error;
+#[cfg(test)]
+mod event_tests;
 mod frame;
 mod highlight;
 pub mod laws;
@@ -21,4 +23,4 @@ pub use error::RenderError;
 pub use highlight::{AnsiFence, Highlighter, NoHighlight};
 pub use md_table::{AlertKind, CustomSheet, DefaultStyleSheet, StyleSheet};
 pub use options::Options;
-pub use render::{from_str, from_str_with_options};
+pub use render::{from_events, from_str, from_str_with_options};

@@ -1,5 +1,7 @@
 // From texts and events to lines.
-ghost use Rattle.std.specs.Prelude.{◌≡◌, IsTrue, IfOk, IfErr};
+ghost use Rattle.std.specs.Prelude.{◌≡◌, IsTrue, IfOk, IfErr, Some, None};
+ghost use Rattle.std.specs.Option.{option_map};
+ghost use Rattle.md_tree.specs.Parse.{tree_of};
 ghost use Rattle.md_events.specs.Built.{built};
 ghost use Rattle.md_events.specs.Blocks.{tree};
 ghost use Rattle.md_text.specs.Look.{look_of, default_look};
@@ -10,7 +12,7 @@ use crate::error::RenderError;
 use crate::highlight::{Highlighter, NoHighlight};
 use crate::machine::Machine;
 use crate::options::Options;
-use md_events::{Event, read};
+use md_events::{Event, read, well_formed};
 use md_table::StyleSheet;
 use std::alloc::{AllocError, Global};
 use term_text::Text;
@@ -43,6 +45,27 @@ pub fn from_str_with_options<'a, S: StyleSheet, H: Highlighter>(
 {
     let events = read(alloc, input)?;
     let text = laid_out(alloc, events.as_slice(), options, highlighter)?;
+    Ok(text)
+}
+
+/// The lines that events lay out, which a program made itself, with these options and this highlighter. The tree that has
+/// these events may be of any depth.
+///
+/// `BadEvents` where no good tree has these events (`well_formed` tells), and else `Memory` is the only refusal.
+pub fn from_events<'a, S: StyleSheet, H: Highlighter>(
+    alloc: Global,
+    events: &[Event<'a>],
+    options: &Options<S>,
+    highlighter: &H,
+) -> Result<Text<'a>, RenderError>
+    ensures lines { IfOk result (λ text. Some text
+        ≡ option_map (document_lines (look_of options.now S.sheet (H.known highlighter.now) (H.answer highlighter.now))) (tree_of events.now)) }
+    ensures bad { IfErr result (λ e. e ≡ RenderError.BadEvents → tree_of events.now ≡ None) }
+{
+    if !well_formed(alloc, events)? {
+        return Err(RenderError::BadEvents);
+    }
+    let text = laid_out(alloc, events, options, highlighter)?;
     Ok(text)
 }
 
