@@ -23,13 +23,18 @@ use Rattle.md_rules.specs.Items.{item_column, item_line, item_lines, item_more, 
 use Rattle.md_rules.specs.Lists.{is_loose, next_item}
 use Rattle.md_rules.specs.Quotes.{first_alert, quoted}
 use Rattle.md_rules.specs.Tables.{cells}
-use Rattle.md_rules.proofs.Filled.{filled, filled-first, filled-item, filled-later, filled-lines_of, filled-quoted, filled-take, filled-without_kind}
+use Rattle.md_rules.specs.declared.entry.Entry.{Entry}
+use Rattle.md_rules.specs.declared.entry.Entry.TheVariants.{Title, Description}
+use Rattle.md_rules.specs.Definitions.{description_lines, title_of}
+use Rattle.md_rules.specs.Entries.{entry_more, next_entry}
+use Rattle.md_rules.proofs.Filled.{filled, filled-description, filled-first, filled-item, filled-later, filled-lines_of, filled-quoted, filled-take, filled-without_kind}
 use Rattle.md_rules.specs.declared.start.Items.TheVariants.{All}
 use Rattle.md_rules.proofs.ItemLemmas.{marker-small}
 use Rattle.md_rules.proofs.StartLemmas.{each-start, item_start-marker}
 use Rattle.md_events.specs.Node.{Node, Run, node_then}
 use Rattle.md_events.specs.CodeBlocks.{code_lines, text_then}
 use Rattle.md_events.specs.Containers.{in_item, inside_quote, item_then, items, list_lines}
+use Rattle.md_events.specs.Definitions.{entries, entry_tag, entry_then, in_entry, in_title}
 use Rattle.md_events.specs.Tables.{cell_nodes, row_nodes, rows}
 use Rattle.md_events.specs.Blocks.{block, block_by, blocks, blocks_after, paragraph_more, tree}
 use Rattle.md_events.proofs.GoodPlaces.{inlines-mixed, with_task-good}
@@ -130,6 +135,35 @@ items-good read good tight kind zero (line ∷ later) numbers fits small =
     go true e passed more = passed
     go false e passed more = at (next_item kind line) e more
 
+in_entry-good : (read : Bool → List LineText → Nodes) → ReadsGood read → (entry : Entry) (line : LineText) (later : List LineText) (n : ℕ) (rest : Nodes) → is_empty line ≡ false → filled (line ∷ later) ≤ most → good_at (level_of level.Entries) rest ≡ true → good_at (level_of level.Entries) (Branch (entry_tag entry) (in_entry read entry line (take n later)) rest) ≡ true
+in_entry-good read good Title line later n rest e small g = and_both _ _ (inlines-good ((title_of line).body ∷ [])) g
+in_entry-good read good Description line later n rest e small g =
+    let lines : List LineText = description_lines line (take n later) in
+    let le : filled lines ≤ most = omega (arith, filled-description line (take n later), filled-take n later, filled-first line later e) in
+    and_both _ _ (good level.Mixed (not (is_loose (take n later))) tt lines le) g
+
+entries-good : (read : Bool → List LineText → Nodes) → ReadsGood read → (n : ℕ) (lines : List LineText) → filled lines ≤ most → good_at (level_of level.Entries) (entries read n lines) ≡ true
+unfolding entries
+entries-good read good n [] small = refl
+entries-good read good (suc n) (line ∷ later) small = entries-good read good n later (omega (arith, filled-later line later))
+entries-good read good zero (line ∷ later) small = go (is_empty line) refl (λ k. entries-good read good k later (omega (arith, filled-later line later)))
+  where
+    found : Option Entry → Nodes
+    found m = entry_then m (λ entry. in_entry read entry line (take (entry_more entry line later) later)) (λ entry. entries read (entry_more entry line later) later)
+
+    at : (m : Option Entry) → is_empty line ≡ false → ((k : ℕ) → good_at (level_of level.Entries) (entries read k later) ≡ true) → good_at (level_of level.Entries) (found m) ≡ true
+    at None e more = refl
+    at (Some entry) e more = in_entry-good read good entry line later (entry_more entry line later) (entries read (entry_more entry line later) later) e small (more (entry_more entry line later))
+
+    go : (v : Bool) → is_empty line ≡ v → ((k : ℕ) → good_at (level_of level.Entries) (entries read k later) ≡ true) → good_at (level_of level.Entries) (cond v (entries read 0 later) (found (next_entry line later))) ≡ true
+    go true e more = more 0
+    go false e more = at (next_entry line later) e more
+
+-- a title before good entries
+definitions-good : (read : Bool → List LineText → Nodes) → ReadsGood read → (line : LineText) (later : List LineText) → filled (line ∷ later) ≤ most → good_at (level_of level.Entries) (Branch tag.DefinitionListTitle (in_title line) (entries read 0 later)) ≡ true
+definitions-good read good line later small =
+    and_both _ _ (inlines-good ((title_of line).body ∷ [])) (entries-good read good 0 later (omega (arith, filled-later line later)))
+
 first-fits : (line : LineText) (marker : Marker) (k : ℕ) → marker_of line ≡ Some marker → k ≤ most → Fits (numbers_from marker.number) k
 first-fits line marker k e le = go marker.number refl
   where
@@ -167,7 +201,8 @@ block-good h tight nests read may stands good line later small =
       item = λ marker text n q e rest g. three (holds_blocks h) _ _ stands
           (items-good read good (not (is_loose (take (list_lines marker line later) later))) marker.kind 0 (line ∷ later) (numbers_from marker.number) (first-fits line marker (filled (line ∷ later)) (item_start-marker All line marker e) small) small) g;
       table = λ text none e rest g. three (holds_blocks h) _ _ stands (and_both _ _ (cell_nodes-good (cells line)) (row_nodes-good (rows nests later))) g;
-      paragraph = λ text none e. run-good h tight may stands (map body_of (line ∷ take (paragraph_more nests later) later));
+      definitions = λ text none t e rest g. three (holds_blocks h) _ _ stands (definitions-good read good line later small) g;
+      paragraph = λ text none t e. run-good h tight may stands (map body_of (line ∷ take (paragraph_more nests later) later));
     })
   where
     code : (column : ℕ) (lines : List LineText) (rest : Nodes) → good_at (level_of h) rest ≡ true → (holds_blocks h && (good_at (level_of level.CodeTexts) (code_lines column lines) && good_at (level_of h) rest)) ≡ true

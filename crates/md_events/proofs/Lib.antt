@@ -4,6 +4,7 @@ pub mod RuleSteps
 pub mod TableSteps
 pub mod TaskSteps
 pub mod ContainerSteps
+pub mod DefinitionSteps
 pub mod TakenLaws
 pub mod GoodPlaces
 pub mod GoodBlocks

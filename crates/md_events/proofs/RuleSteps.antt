@@ -1,15 +1,15 @@
 -- The block at a line by what begins there.
-use Rattle.std.proofs.Common.{List, [], ◌∷◌, length, drop, take, get_or, ◌≡◌, ◌<◌, ◌+◌, ◌-◌, ℕ, zero, suc, refl, sym, ap, ◌∙◌, arith, Bool, true, false, Some}
+use Rattle.std.proofs.Common.{List, [], ◌∷◌, length, drop, take, get_or, ◌≡◌, ◌<◌, ◌+◌, ◌-◌, ℕ, zero, suc, sym, ap, ◌∙◌, arith, Bool, true, false, Some}
 use Rattle.std.proofs.lemmas.Bool.{false≢true}
-use Rattle.md_tree.specs.Tree.{Nodes}
 use Rattle.md_lines.specs.Lines.{LineText}
 use Rattle.md_rules.specs.declared.item.Marker.{Marker}
 use Rattle.md_rules.specs.declared.start.BlockStart.{BlockStart}
 use Rattle.md_rules.specs.declared.start.BlockStart.TheVariants as start
 use Rattle.md_rules.specs.declared.start.Items.TheVariants.{All}
 use Rattle.md_rules.specs.Starts.{block_start}
-use Rattle.md_rules.proofs.StartLemmas.{start-marker, start-quote}
-use Rattle.md_events.specs.Node.{Block, block_events}
+use Rattle.md_rules.proofs.StartLemmas.{start-definitions, start-marker, start-quote}
+use Rattle.md_events.specs.Node.{block_events}
+use Rattle.md_events.specs.Definitions.{definitions}
 use Rattle.md_events.specs.Blocks.{block_by, blocks}
 use Rattle.md_events.specs.Written.{begins_quote, first_block, first_list, first_marker, first_quote, nests, reader}
 
@@ -48,6 +48,14 @@ list-is n lines line later nested m l v e =
       ap first_marker l ∙ found.1,
       block-is n lines line later nested (start.Item m) l v e ∙ (ap (λ r. block_by (nests n) r line later (start.Item m)) same ∙ ap (first_list (n - 1) m) (sym l)),
       nests-some n nested v found.0,
+    )
+
+pub definitions-is : (n : ℕ) (lines : List LineText) (line : LineText) (later : List LineText) (nested : Bool) → lines ≡ line ∷ later → nested ≡ nests n → block_start nested All line later ≡ start.Definitions → (first_block n lines ≡ definitions (blocks (n - 1)) line later) × (0 < n)
+definitions-is n lines line later nested l v e =
+    let found = start-definitions nested All line later e in
+    let same : reader n ≡ blocks (n - 1) = reader-some n (sym v ∙ found) in (
+      block-is n lines line later nested start.Definitions l v e ∙ ap (λ r. block_by (nests n) r line later start.Definitions) same,
+      nests-some n nested v found,
     )
 
 -- the lines that a block takes

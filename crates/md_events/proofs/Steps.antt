@@ -7,7 +7,6 @@ use Rattle.md_tree.specs.declared.event.Event.TheVariants.{Start, End}
 use Rattle.md_tree.specs.declared.event.Tag.{Tag}
 use Rattle.md_tree.specs.declared.event.Tag.TheVariants.{Paragraph}
 use Rattle.md_tree.specs.declared.event.TagEnd.{TagEnd}
-use Rattle.md_tree.specs.declared.event.TagEnd.TheVariants as end
 use Rattle.md_tree.specs.Tree.{Nodes, Empty, Branch, end_of, events, events_then}
 use Rattle.md_tree.proofs.Nodes.{events-nodes_then, events_then-events, nodes_then-empty}
 use Rattle.md_lines.specs.Lines.{LineText, is_empty}

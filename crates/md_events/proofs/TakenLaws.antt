@@ -1,14 +1,17 @@
 -- The blocks of lines take all of them.
-use Rattle.std.proofs.Common.{List, [], ◌∷◌, ◌++◌, length, drop, take, ◌≡◌, ◌≤◌, ◌<◌, ◌+◌, ◌==◌, ℕ, zero, suc, refl, sym, ap, subst, ◌∙◌, arith, Bool, true, false, cond, ◌||◌, not, ◌&&◌, nat_le, min, Option, Some, None}
+use Rattle.std.proofs.Common.{List, [], ◌∷◌, ◌++◌, length, drop, take, ◌≡◌, ◌≤◌, ◌+◌, ℕ, zero, suc, refl, sym, ap, subst, ◌∙◌, arith, Bool, true, false, cond, ◌||◌, nat_le, Option, Some, None}
 use Rattle.std.proofs.Math.Nat.{min-le_right}
 use Rattle.std.proofs.lemmas.List.{length-take-le, take-append-drop}
-use Rattle.md_tree.specs.Tree.{Nodes, Empty}
+use Rattle.md_tree.specs.Tree.{Nodes}
 use Rattle.md_lines.specs.Lines.{LineText, is_empty}
 use Rattle.md_rules.specs.declared.item.Marker.{Marker}
 use Rattle.md_rules.specs.declared.start.Items.TheVariants.{All}
 use Rattle.md_rules.specs.Code.{hanging, if_more}
-use Rattle.md_rules.specs.Fences.{fence_more, fenced}
+use Rattle.md_rules.specs.Fences.{fenced}
 use Rattle.md_rules.specs.Items.{item_more}
+use Rattle.md_rules.specs.declared.entry.Entry.{Entry}
+use Rattle.md_rules.specs.declared.entry.Entry.TheVariants.{Title, Description}
+use Rattle.md_rules.specs.Entries.{entries_more, entry_more, next_entry, with_entry}
 use Rattle.md_rules.specs.Lists.{list_more, next_item, with_item}
 use Rattle.md_rules.specs.Rows.{is_row, row_count}
 use Rattle.md_rules.specs.Starts.{interrupts}
@@ -34,6 +37,10 @@ hanging-within column (line ∷ lines) = go (is_empty line) (nat_le column line.
     go false true le = omega arith
     go false false le = omega arith
 
+entry_more-within : (entry : Entry) (line : LineText) (later : List LineText) → entry_more entry line later ≤ length later
+entry_more-within Title line later = omega arith
+entry_more-within Description line later = hanging-within _ later
+
 list_more-within : (kind n : ℕ) (lines : List LineText) → n ≤ length lines → list_more kind n lines ≤ length lines
 unfolding list_more
 list_more-within kind n [] le = omega arith
@@ -44,6 +51,17 @@ list_more-within kind zero (line ∷ later) le = go (is_empty line) (next_item k
     go true found none some = if_more-within (list_more kind 0 later) (length later) none
     go false None none some = omega arith
     go false (Some m) none some = let more = some m in omega (arith, more)
+
+entries_more-within : (n : ℕ) (lines : List LineText) → n ≤ length lines → entries_more n lines ≤ length lines
+unfolding entries_more
+entries_more-within n [] le = omega arith
+entries_more-within (suc n) (line ∷ later) le = let more = entries_more-within n later (omega arith) in omega (arith, more)
+entries_more-within zero (line ∷ later) le = go (is_empty line) (next_entry line later) (entries_more-within 0 later (omega arith)) (λ e. entries_more-within (entry_more e line later) later (entry_more-within e line later))
+  where
+    go : (e : Bool) (found : Option Entry) → entries_more 0 later ≤ length later → ((entry : Entry) → entries_more (entry_more entry line later) later ≤ length later) → cond e (if_more (entries_more 0 later)) (with_entry found (λ entry. entries_more (entry_more entry line later) later)) ≤ suc (length later)
+    go true found none some = if_more-within (entries_more 0 later) (length later) none
+    go false None none some = omega arith
+    go false (Some e) none some = let more = some e in omega (arith, more)
 
 row_count-within : (nests : Bool) (lines : List LineText) → row_count nests lines ≤ length lines
 unfolding row_count
@@ -79,7 +97,8 @@ block-within nests read line later =
       quote = λ text n q. quoted-within later;
       item = λ marker text n q e. list_more-within marker.kind (item_more marker line later) later (hanging-within _ later);
       table = λ text none e. table-within nests line later e;
-      paragraph = λ text none e. paragraph_more-within nests later;
+      definitions = λ text none t e. entries_more-within 0 later (omega arith);
+      paragraph = λ text none t e. paragraph_more-within nests later;
     })
 
 -- one block and those behind it

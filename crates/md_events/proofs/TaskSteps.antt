@@ -1,8 +1,6 @@
 -- The task mark of an item among its blocks.
-use Rattle.std.proofs.Common.{List, [], ◌∷◌, ◌++◌, length, drop, take, ◌≡◌, ◌≤◌, ◌<◌, ◌+◌, ℕ, zero, suc, refl, sym, ap, ◌∙◌, arith, Bool, true, false, cond, map, subst, append_assoc, Option, Some, None}
+use Rattle.std.proofs.Common.{List, [], ◌∷◌, ◌++◌, drop, take, ◌≡◌, ◌+◌, ℕ, suc, refl, sym, ap, ◌∙◌, arith, Bool, true, false, cond, map, subst, append_assoc, Some, None}
 use Rattle.std.specs.Bool.{⊤}
-use Rattle.std.specs.List.{prefix_len}
-use Rattle.std.proofs.lemmas.Bool.{false≢true}
 use Rattle.md_tree.specs.declared.event.Event.{Event}
 use Rattle.md_tree.specs.declared.event.Event.TheVariants as event
 use Rattle.md_tree.specs.declared.event.Tag.TheVariants as tag
@@ -13,7 +11,7 @@ use Rattle.md_rules.specs.declared.start.BlockStart.{BlockStart}
 use Rattle.md_rules.specs.declared.start.BlockStart.TheVariants as start
 use Rattle.md_rules.specs.declared.start.Items.TheVariants.{All}
 use Rattle.md_rules.specs.Starts.{block_start}
-use Rattle.md_events.specs.Node.{Node, node_then}
+use Rattle.md_events.specs.Node.{node_then}
 use Rattle.md_events.specs.Containers.{mark_then, with_task}
 use Rattle.md_events.specs.Blocks.{block_by, blocks, paragraph_more}
 use Rattle.md_events.specs.Written.{empty_front, front_paragraph, lines_by, marked, nests, reader}
@@ -50,6 +48,7 @@ mark-before n done line later (start.Heading level) rest e = refl
 mark-before n done line later start.Quote rest e = refl
 mark-before n done line later (start.Item marker) rest e = refl
 mark-before n done line later start.Table rest e = refl
+mark-before n done line later start.Definitions rest e = refl
 mark-before n done line later start.Paragraph rest e = cc
 
 pub task-none : (n : ℕ) (tight done : Bool) (lines : List LineText) → FirstIsText lines → front_paragraph tight (nests n) lines ≡ None → with_task tight (Some done) (blocks n tight lines) ≡ Leaf (event.TaskListMarker done) (blocks n tight lines)
@@ -67,6 +66,7 @@ mark-inside n done line later (start.Heading level) k e = cc
 mark-inside n done line later start.Quote k e = cc
 mark-inside n done line later (start.Item marker) k e = cc
 mark-inside n done line later start.Table k e = cc
+mark-inside n done line later start.Definitions k e = cc
 mark-inside n done line later start.Paragraph k e =
     let same : k ≡ suc (paragraph_more (nests n) later) = let counted : paragraph_more (nests n) later + 1 ≡ k = cc in omega (arith, counted) in
     ap (λ m. Branch tag.Paragraph (marked (Some done) (inlines (map body_of (take m (line ∷ later))))) (blocks n false (drop m (line ∷ later)))) (sym same)

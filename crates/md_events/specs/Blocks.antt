@@ -15,6 +15,7 @@ use Rattle.md_events.specs.Node.{Block, Element, Node, Run, Single, node_then, o
 use Rattle.md_events.specs.CodeBlocks.{fence_block, indented}
 use Rattle.md_events.specs.Containers.{list, quote}
 use Rattle.md_events.specs.Tables.{table}
+use Rattle.md_events.specs.Definitions.{definitions}
 
 -- how many lines go on with a paragraph: each further nonempty line at which no other block begins
 unfoldable pub paragraph_more : Bool → List LineText → ℕ
@@ -39,6 +40,7 @@ block_by nests read line later (start.Heading level) = one_line (heading_node (h
 block_by nests read line later start.Quote = quote read line later
 block_by nests read line later (start.Item marker) = list read marker line later
 block_by nests read line later start.Table = table nests line later
+block_by nests read line later start.Definitions = definitions read line later
 block_by nests read line later start.Paragraph = paragraph nests line later
 
 -- the block at a nonempty line, which later lines follow

@@ -21,11 +21,14 @@ pub use Rattle.md_rules.specs.Items
 pub use Rattle.md_rules.specs.Tables as LineTables
 pub use Rattle.md_rules.specs.Starts
 pub use Rattle.md_rules.specs.Lists
+pub use Rattle.md_rules.specs.Definitions as LineDefinitions
+pub use Rattle.md_rules.specs.Entries
 pub use Rattle.md_rules.specs.Rows
 pub mod Node
 pub mod CodeBlocks
 pub mod Containers
 pub mod Tables
+pub mod Definitions
 pub mod Blocks
 pub mod Taken
 pub mod Written

@@ -1,5 +1,5 @@
 -- What becomes of each line, for the law that none is lost.
-use Rattle.std.specs.Prelude.{◌≡◌, ℕ, Bool, true, false, List, [], ◌∷◌, ◌++◌, length}
+use Rattle.std.specs.Prelude.{◌≡◌, Bool, true, false, List, [], ◌∷◌, ◌++◌, length}
 use Rattle.md_tree.specs.Tree.{Nodes, Empty}
 use Rattle.md_lines.specs.Lines.{LineText, is_empty}
 use Rattle.md_events.specs.Node.{node_then}

@@ -1,21 +1,26 @@
 // Blocks: the lines of a document as events.
-ghost use Rattle.std.specs.Prelude.{◌≡◌, ◌++◌, ◌<◌, Some, false, IfOk, IsTrue, OnOk, length};
+ghost use Rattle.std.specs.Prelude.{◌≡◌, ◌++◌, ◌<◌, ◌≤◌, Some, false, IfOk, IsTrue, OnOk, length};
 ghost use Rattle.md_tree.specs.Tree.{Branch, Empty, events};
 ghost use Rattle.md_tree.specs.declared.event.Tag.TheVariants as tag;
 ghost use Rattle.md_rules.specs.Items.{marker_of};
 ghost use Rattle.md_events.specs.Node.{block_events};
+ghost use Rattle.md_rules.specs.Definitions.{describes};
+ghost use Rattle.md_rules.specs.declared.entry.Entry.TheVariants.{Description};
 ghost use Rattle.md_events.specs.Containers.{in_item, items, with_task};
+ghost use Rattle.md_events.specs.Definitions.{definitions, entries, entry_tag, in_description, in_entry};
 ghost use Rattle.md_events.specs.Blocks.{blocks};
 ghost use Rattle.md_events.specs.Written.{begins_quote, first_block, first_list, first_marker, first_quote, nests};
 
 use crate::code_blocks::{write_code, write_fenced};
+use crate::definitions::write_title;
 use crate::heading::write_heading;
 use crate::paragraph::{empty_front, front_paragraph, paragraph_more, write_paragraph, write_run};
 use crate::tables::write_table;
 use md_lines::Line;
 use md_rules::{
-    BlockStart, Items, Marker, block_start, first_alert, hanging, heading_at, is_loose, item_lines,
-    list_more, next_item, quoted, task_of, without_kind,
+    BlockStart, Entry, Items, Marker, block_start, description_lines, entries_more, first_alert,
+    hanging, heading_at, is_loose, item_lines, list_more, next_entry, next_item, quoted, task_of,
+    without_kind,
 };
 use md_tree::{CodeBlockKind, Event, Tag, TagEnd};
 use std::alloc::{AllocError, Global};
@@ -77,6 +82,7 @@ fn write_block<'a>(
         BlockStart::Quote => write_quote(alloc, lines, levels - 1, out),
         BlockStart::Item(marker) => write_list(alloc, marker, lines, levels - 1, out),
         BlockStart::Table => write_table(alloc, line, later, nests, out),
+        BlockStart::Definitions => write_definitions(alloc, line, later, levels - 1, out),
         BlockStart::Paragraph => {
             let more = paragraph_more(nests, later);
             write_run(alloc, tight, &lines[..1 + more], out)?;
@@ -227,4 +233,93 @@ fn write_item_blocks<'a>(
             write_blocks(alloc, blocks, levels, tight, out)
         }
     }
+}
+
+/// Appends the events of the definition list whose first title is the line, before these lines, in whose descriptions
+/// containers may stand so many levels deep, and tells how many of them it takes.
+#[cycle(blocks)]
+fn write_definitions<'a>(
+    alloc: Global,
+    line: &Line<'a>,
+    later: &[Line<'a>],
+    levels: usize,
+    out: &mut Vec<Event<'a>>,
+) -> Result<usize, AllocError>
+    ensures written { OnOk result (out.new.items ≡ out.old.items ++ block_events false (definitions (blocks levels) line.now later.now)) }
+    ensures lines { IfOk result (λ n. n ≡ (definitions (blocks levels) line.now later.now).more) }
+    ensures within { IfOk result (λ n. n ≤ length later.now) }
+{
+    out.push(Event::Start(Tag::DefinitionList))?;
+    write_title(alloc, line, out)?;
+    write_entries(alloc, later, levels, out)?;
+    out.push(Event::End(TagEnd::DefinitionList))?;
+    Ok(entries_more(later))
+}
+
+/// Appends the events of the further entries of a definition list that the lines begin with, in which containers may stand
+/// so many levels deep.
+#[cycle(blocks)]
+fn write_entries<'a>(
+    alloc: Global,
+    lines: &[Line<'a>],
+    levels: usize,
+    out: &mut Vec<Event<'a>>,
+) -> Result<(), AllocError>
+    ensures { OnOk result (out.new.items ≡ out.old.items ++ events (entries (blocks levels) 0 lines.now)) }
+{
+    let mut at = 0;
+    while at < lines.len() {
+        let line = &lines[at];
+        at += 1;
+        if line.is_empty() {
+            continue;
+        }
+        let Some(entry) = next_entry(line, &lines[at..]) else {
+            break;
+        };
+        let own = entry.entry_more(line, &lines[at..]);
+        write_entry(alloc, entry, line, &lines[at..at + own], levels, out)?;
+        at += own;
+    }
+    Ok(())
+}
+
+/// Appends the events of the entry at the line that has these further lines, in which containers may stand so many levels
+/// deep.
+#[cycle(blocks)]
+fn write_entry<'a>(
+    alloc: Global,
+    entry: Entry,
+    line: &Line<'a>,
+    own: &[Line<'a>],
+    levels: usize,
+    out: &mut Vec<Event<'a>>,
+) -> Result<(), AllocError>
+    requires { entry ≡ Description → IsTrue (describes line.now) }
+    ensures { OnOk result (out.new.items ≡ out.old.items ++ events (Branch (entry_tag entry) (in_entry (blocks levels) entry line.now own.now) Empty)) }
+{
+    match entry {
+        Entry::Title => write_title(alloc, line, out),
+        Entry::Description => write_description(alloc, line, own, levels, out),
+    }
+}
+
+/// Appends the events of the description that begins at the line and has these further lines, in which containers may stand
+/// so many levels deep.
+#[cycle(blocks)]
+fn write_description<'a>(
+    alloc: Global,
+    line: &Line<'a>,
+    own: &[Line<'a>],
+    levels: usize,
+    out: &mut Vec<Event<'a>>,
+) -> Result<(), AllocError>
+    requires { IsTrue (describes line.now) }
+    ensures { OnOk result (out.new.items ≡ out.old.items ++ events (Branch tag.DefinitionListDefinition (in_description (blocks levels) line.now own.now) Empty)) }
+{
+    let inside = description_lines(alloc, line, own)?;
+    out.push(Event::Start(Tag::DefinitionListDefinition))?;
+    write_blocks(alloc, inside.as_slice(), levels, !is_loose(own), out)?;
+    out.push(Event::End(TagEnd::DefinitionListDefinition))?;
+    Ok(())
 }

@@ -1,7 +1,7 @@
 // The forms of the dialect that are built.
-ghost use Rattle.std.specs.Prelude.{◌≡◌, true};
+ghost use Rattle.std.specs.Prelude.{◌≡◌};
 ghost use Rattle.md_lines.specs.Lines.{lines_of};
-ghost use Rattle.md_events.specs.Built.{begins_metadata, begins_unbuilt, built, has_unbuilt, leads_on, may_lead};
+ghost use Rattle.md_events.specs.Built.{begins_metadata, begins_unbuilt, built, has_unbuilt};
 
 use md_lines::line_of;
 use md_rules::is_dashes;
@@ -9,9 +9,8 @@ use term_text::next_line;
 
 /// Whether all forms of the text are built. Takes no memory.
 ///
-/// It is false exactly where the text holds `$`, `<`, `![` or `[^`, where a `:` that a blank follows stands where a line's
-/// content may begin (only blanks, quote marks, markers and task marks stand before it on its line), or where its first
-/// line has indent 0 and the trimmed body `---`.
+/// It is false exactly where the text holds `$`, `<`, `![` or `[^`, or where its first line has indent 0 and the trimmed
+/// body `---`.
 pub fn built(text: &str) -> bool
     ensures { result ≡ built text.now }
 {
@@ -21,24 +20,21 @@ pub fn built(text: &str) -> bool
 /// Whether a form that is not built begins somewhere, metadata aside.
 #[tactic(auto, unfolding(crate::specs::Built::has_unbuilt))]
 fn has_unbuilt(bytes: &[u8]) -> bool
-    ensures { result ≡ has_unbuilt true bytes.now }
+    ensures { result ≡ has_unbuilt bytes.now }
 {
     let mut rest = bytes;
-    let mut leads = true;
     while let Some((b, behind)) = rest.split_first() {
-        if begins_unbuilt(leads, *b, behind) {
+        if begins_unbuilt(*b, behind) {
             return true;
         }
-        leads = leads_on(leads, *b);
         rest = behind;
     }
     false
 }
 
-/// Whether a byte begins a form that is not built, with these bytes behind it, where a line's content may begin at it or
-/// not.
-fn begins_unbuilt(leads: bool, b: u8, behind: &[u8]) -> bool
-    ensures { result ≡ begins_unbuilt leads b behind.now }
+/// Whether a byte begins a form that is not built, with these bytes behind it.
+fn begins_unbuilt(b: u8, behind: &[u8]) -> bool
+    ensures { result ≡ begins_unbuilt b behind.now }
 {
     // the letters of most texts stand above all of these bytes
     if b > b'[' {
@@ -48,37 +44,8 @@ fn begins_unbuilt(leads: bool, b: u8, behind: &[u8]) -> bool
         b'$' | b'<' => true,
         b'!' => matches!(behind.first(), Some(b'[')),
         b'[' => matches!(behind.first(), Some(b'^')),
-        b':' => leads && matches!(behind.first(), Some(b' ' | b'\t')),
         _ => false,
     }
-}
-
-/// Whether a line's content may begin behind this byte, where it may begin at it or not.
-fn leads_on(leads: bool, b: u8) -> bool
-    ensures { result ≡ leads_on leads b }
-{
-    b == b'\n' || b == b'\r' || (leads && may_lead(b))
-}
-
-/// Whether the byte may stand before a line's content: a blank, a quote's mark, or one of those that markers and task marks
-/// are made of.
-fn may_lead(b: u8) -> bool
-    ensures { result ≡ may_lead b }
-{
-    matches!(
-        b,
-        b' ' | b'\t' | b'0'..=b'9'
-            | b'>'
-            | b'-'
-            | b'*'
-            | b'+'
-            | b'.'
-            | b')'
-            | b'['
-            | b']'
-            | b'x'
-            | b'X'
-    )
 }
 
 /// Whether the text begins as metadata does.

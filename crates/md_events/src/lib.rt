@@ -3,6 +3,7 @@
 
 mod blocks;
 mod code_blocks;
+mod definitions;
 mod forms;
 mod heading;
 pub mod laws;

@@ -6,6 +6,8 @@ use Rattle.md_lines.specs.Lines.{LineText, is_empty, is_nothing, line_of, lines_
 use Rattle.md_rules.specs.Shallow.{is_shallow}
 use Rattle.md_rules.specs.Texts.{begins_with}
 use Rattle.md_rules.specs.Quotes.{less, quoted, quotes, unquoted, without_kind}
+use Rattle.md_rules.specs.Hung.{hung}
+use Rattle.md_rules.specs.Definitions.{description_column, description_lines}
 use Rattle.md_rules.specs.Items.{item_lines, task_of, without_task}
 use Rattle.md_tree.specs.declared.event.BlockQuoteKind.{BlockQuoteKind}
 use Rattle.std.specs.Prelude.{Option, Some, None}
@@ -62,8 +64,15 @@ pub filled-without_kind : (kind : Option BlockQuoteKind) (lines : List LineText)
 filled-without_kind None lines = omega arith
 filled-without_kind (Some kind) lines = filled-drop 1 lines
 
+-- a line and those that hang below it
+filled-hung : (column : ℕ) (first : LineText) (own : List LineText) → filled (hung column first own) ≤ suc (filled own)
+filled-hung column first own = omega (arith, filled-most first (map (less column) own), filled-less column own)
+
+pub filled-description : (line : LineText) (own : List LineText) → filled (description_lines line own) ≤ suc (filled own)
+filled-description line own = filled-hung (description_column line) (less 1 (line_of (drop 1 line.body))) own
+
 pub filled-item : (column : ℕ) (first : LineText) (own : List LineText) → filled (item_lines column first own) ≤ suc (filled own)
-filled-item column first own = omega (arith, filled-most (without_task (task_of first) first) (map (less column) own), filled-less column own)
+filled-item column first own = filled-hung column (without_task (task_of first) first) own
 
 -- a line has a byte for its end, but for the last
 abbrev weight : List (List ℕ) → ℕ

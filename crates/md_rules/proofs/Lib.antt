@@ -7,6 +7,7 @@ pub mod ItemLemmas
 pub mod StartLemmas
 pub mod RuleLaws
 pub mod ListLemmas
+pub mod EntryLemmas
 pub mod CellLemmas
 pub mod RowLemmas
 pub mod Filled

@@ -50,14 +50,14 @@ empty-step kind lines taken at d all lt e h =
     let here : list_more kind 0 (drop at lines) ≡ if_more (list_more kind 0 (drop (at + 1) lines)) = ap (list_more kind 0) (drop_more lines at d lt) ∙ list_more-empty kind (get_or lines at d) (drop (at + 1) lines) e in
     sym (with_taken-empty taken at (list_more kind 0 (drop (at + 1) lines))) ∙ (ap (with_taken taken at) (sym here) ∙ h)
 
-with_taken-same : (at n : ℕ) → with_taken at at n ≡ at + n
+pub with_taken-same : (at n : ℕ) → with_taken at at n ≡ at + n
 with_taken-same at zero = omega arith
 with_taken-same at (suc n) = refl
 
 pub list-start : (kind own : ℕ) (lines : List LineText) → own ≤ length lines → with_taken own own (list_more kind 0 (drop own lines)) ≡ list_more kind own lines
 list-start kind own lines le = with_taken-same own (list_more kind 0 (drop own lines)) ∙ sym (list_more-skip kind own lines le)
 
-with_taken-item : (taken at m n : ℕ) → with_taken taken at (suc (m + n)) ≡ with_taken (at + 1 + m) (at + 1 + m) n
+pub with_taken-item : (taken at m n : ℕ) → with_taken taken at (suc (m + n)) ≡ with_taken (at + 1 + m) (at + 1 + m) n
 with_taken-item taken at m n = let h = with_taken-same (at + 1 + m) n in omega arith
 
 -- an item is taken with its further lines

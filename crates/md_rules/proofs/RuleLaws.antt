@@ -1,5 +1,5 @@
 -- What begins at a line, and the rules that hold there.
-use Rattle.std.proofs.Common.{List, ◌≡◌, ◌≤◌, ◌<◌, ◌+◌, ℕ, refl, sym, ap, ◌∙◌, arith, Bool, true, false, cond, not, ◌&&◌, Option, Some, None, ◌⊎◌, inl, inr}
+use Rattle.std.proofs.Common.{List, ◌≡◌, ◌≤◌, ◌<◌, ℕ, refl, sym, ap, ◌∙◌, arith, Bool, true, false, cond, ◌&&◌, Some, None, inl, inr}
 use Rattle.std.specs.Option.{is_some}
 use Rattle.std.proofs.lemmas.Bool.{false≢true, leb-true, le-leb}
 use Rattle.std.proofs.lemmas.Bool.Decides.{leb_tells}
@@ -10,7 +10,8 @@ use Rattle.md_rules.specs.Fences.{fence_of}
 use Rattle.md_rules.specs.ThematicBreaks.{is_thematic_break}
 use Rattle.md_rules.specs.Headings.{heading_level}
 use Rattle.md_rules.specs.Tables.{starts_table}
-use Rattle.md_rules.specs.Items.{marker_of, may_interrupt}
+use Rattle.md_rules.specs.Definitions.{starts_definitions}
+use Rattle.md_rules.specs.Items.{may_interrupt}
 use Rattle.md_rules.specs.declared.item.Marker.{Marker}
 use Rattle.md_rules.specs.Quotes.{quotes}
 use Rattle.md_rules.specs.Starts.{block_start, counted, interrupts, is_among, item_start, place, rule_of}
@@ -19,10 +20,8 @@ use Rattle.md_rules.specs.declared.rule.Rule.{Rule}
 use Rattle.md_rules.specs.declared.rule.Rule.TheVariants as rule
 use Rattle.md_rules.specs.declared.start.Items.{Items}
 use Rattle.md_rules.specs.declared.start.Items.TheVariants.{All, Interrupting}
-use Rattle.md_rules.specs.declared.start.BlockStart.{BlockStart}
-use Rattle.md_rules.specs.declared.start.BlockStart.TheVariants as start
 use Rattle.md_tree.proofs.Nodes.{and_left, and_right}
-use Rattle.md_rules.proofs.StartLemmas.{EachStart, NoContainer, NoLeaf, each-start, item_start-marker}
+use Rattle.md_rules.proofs.StartLemmas.{NoContainer, NoLeaf, each-start, item_start-marker}
 
 no-quote : (nests : Bool) (items : Items) (line : LineText) → NoContainer nests items line → (nests && quotes line) ≡ false
 no-quote nests items line (inl e) = rw e refl
@@ -43,7 +42,8 @@ record Before (nests : Bool) (items : Items) (line : LineText) (later : List Lin
   quote : 4 < bound → (nests && quotes line) ≡ false
   item : 5 < bound → (nests && is_some (item_start items line)) ≡ false
   table : 6 < bound → starts_table line later ≡ false
-  last : bound ≤ 7
+  definitions : 7 < bound → (nests && starts_definitions line later) ≡ false
+  last : bound ≤ 8
 
 before : (nests : Bool) (items : Items) (line : LineText) (later : List LineText) (bound : ℕ) → Before nests items line later bound → (r : Rule) → place r < bound → holds nests items line later r ≡ false
 before nests items line later bound b rule.Code lt = b.code lt
@@ -53,11 +53,12 @@ before nests items line later bound b rule.Heading lt = ap is_some (b.heading lt
 before nests items line later bound b rule.Quote lt = b.quote lt
 before nests items line later bound b rule.Item lt = b.item lt
 before nests items line later bound b rule.Table lt = b.table lt
+before nests items line later bound b rule.Definitions lt = b.definitions lt
 before nests items line later bound b rule.Paragraph lt = absurd (omega (arith, b.last))
 
 -- no leaf block begins, and these hold of the rules for containers and tables
-behind-leaves : (nests : Bool) (items : Items) (line : LineText) (later : List LineText) (bound : ℕ) → NoLeaf line → (4 < bound → (nests && quotes line) ≡ false) → (5 < bound → (nests && is_some (item_start items line)) ≡ false) → (6 < bound → starts_table line later ≡ false) → bound ≤ 7 → (r : Rule) → place r < bound → holds nests items line later r ≡ false
-behind-leaves nests items line later bound text q i t le =
+behind-leaves : (nests : Bool) (items : Items) (line : LineText) (later : List LineText) (bound : ℕ) → NoLeaf line → (4 < bound → (nests && quotes line) ≡ false) → (5 < bound → (nests && is_some (item_start items line)) ≡ false) → (6 < bound → starts_table line later ≡ false) → (7 < bound → (nests && starts_definitions line later) ≡ false) → bound ≤ 8 → (r : Rule) → place r < bound → holds nests items line later r ≡ false
+behind-leaves nests items line later bound text q i t d le =
     before nests items line later bound
     (record {
       code = λ lt. text.code;
@@ -67,6 +68,7 @@ behind-leaves nests items line later bound text q i t le =
       quote = q;
       item = i;
       table = t;
+      definitions = d;
       last = le;
     })
 
@@ -94,6 +96,7 @@ is-first nests items line later =
           quote = λ lt. absurd (omega arith);
           item = λ lt. absurd (omega arith);
           table = λ lt. absurd (omega arith);
+          definitions = λ lt. absurd (omega arith);
           last = omega arith;
         }),
       );
@@ -107,6 +110,7 @@ is-first nests items line later =
           quote = λ lt. absurd (omega arith);
           item = λ lt. absurd (omega arith);
           table = λ lt. absurd (omega arith);
+          definitions = λ lt. absurd (omega arith);
           last = omega arith;
         }),
       );
@@ -120,13 +124,15 @@ is-first nests items line later =
           quote = λ lt. absurd (omega arith);
           item = λ lt. absurd (omega arith);
           table = λ lt. absurd (omega arith);
+          definitions = λ lt. absurd (omega arith);
           last = omega arith;
         }),
       );
-      quote = λ text n e. (both-true nests (quotes line) n e, behind-leaves nests items line later 4 text (λ lt. absurd (omega arith)) (λ lt. absurd (omega arith)) (λ lt. absurd (omega arith)) (omega arith));
-      item = λ marker text n q e. (both-true nests (is_some (item_start items line)) n (ap is_some e), behind-leaves nests items line later 5 text (λ lt. second-false nests (quotes line) q) (λ lt. absurd (omega arith)) (λ lt. absurd (omega arith)) (omega arith));
-      table = λ text none e. (e, behind-leaves nests items line later 6 text (λ lt. no-quote nests items line none) (λ lt. no-item nests items line none) (λ lt. absurd (omega arith)) (omega arith));
-      paragraph = λ text none e. (refl, behind-leaves nests items line later 7 text (λ lt. no-quote nests items line none) (λ lt. no-item nests items line none) (λ lt. e) (omega arith));
+      quote = λ text n e. (both-true nests (quotes line) n e, behind-leaves nests items line later 4 text (λ lt. absurd (omega arith)) (λ lt. absurd (omega arith)) (λ lt. absurd (omega arith)) (λ lt. absurd (omega arith)) (omega arith));
+      item = λ marker text n q e. (both-true nests (is_some (item_start items line)) n (ap is_some e), behind-leaves nests items line later 5 text (λ lt. second-false nests (quotes line) q) (λ lt. absurd (omega arith)) (λ lt. absurd (omega arith)) (λ lt. absurd (omega arith)) (omega arith));
+      table = λ text none e. (e, behind-leaves nests items line later 6 text (λ lt. no-quote nests items line none) (λ lt. no-item nests items line none) (λ lt. absurd (omega arith)) (λ lt. absurd (omega arith)) (omega arith));
+      definitions = λ text none t e. (e, behind-leaves nests items line later 7 text (λ lt. no-quote nests items line none) (λ lt. no-item nests items line none) (λ lt. t) (λ lt. absurd (omega arith)) (omega arith));
+      paragraph = λ text none t e. (refl, behind-leaves nests items line later 8 text (λ lt. no-quote nests items line none) (λ lt. no-item nests items line none) (λ lt. t) (λ lt. e) (omega arith));
     })
 
 le-from : (a b : ℕ) → nat_le a b ≡ true → a ≤ b
@@ -177,11 +183,12 @@ only-code nests items line later c rule.Heading lt = absurd (omega arith)
 only-code nests items line later c rule.Quote lt = absurd (omega arith)
 only-code nests items line later c rule.Item lt = absurd (omega arith)
 only-code nests items line later c rule.Table lt = absurd (omega arith)
+only-code nests items line later c rule.Definitions lt = absurd (omega arith)
 only-code nests items line later c rule.Paragraph lt = absurd (omega arith)
 
 -- none of the rules that end a paragraph holds at a line that goes on with it
-kept : (nests : Bool) (line : LineText) (later : List LineText) → is_code line ≡ false → interrupts nests line later ≡ false → (r : Rule) → is_among rule.Fence rule.Table r ≡ true → holds nests Interrupting line later r ≡ false
-kept nests line later c out r within = among-none nests Interrupting line later rule.Fence rule.Table out (only-code nests Interrupting line later c) r within
+kept : (nests : Bool) (line : LineText) (later : List LineText) → is_code line ≡ false → interrupts nests line later ≡ false → (r : Rule) → is_among rule.Fence rule.Definitions r ≡ true → holds nests Interrupting line later r ≡ false
+kept nests line later c out r within = among-none nests Interrupting line later rule.Fence rule.Definitions out (only-code nests Interrupting line later c) r within
 
 -- what may begin at a line that does not end a paragraph
 pub goes-on : (nests : Bool) (line : LineText) (later : List LineText) → interrupts nests line later ≡ false → GoesOn line (block_start nests All line later)
@@ -195,8 +202,9 @@ goes-on nests line later out =
       quote = λ text n e. ended text.code rule.Quote refl (both-true nests (quotes line) n e);
       item = λ marker text n q e. late nests line marker n e (kept nests line later text.code out rule.Item refl);
       table = λ text none e. ended text.code rule.Table refl e;
-      paragraph = λ text none e. tt;
+      definitions = λ text none t e. ended text.code rule.Definitions refl e;
+      paragraph = λ text none t e. tt;
     })
   where
-    ended : is_code line ≡ false → (r : Rule) → is_among rule.Fence rule.Table r ≡ true → holds nests Interrupting line later r ≡ true → ⊥
+    ended : is_code line ≡ false → (r : Rule) → is_among rule.Fence rule.Definitions r ≡ true → holds nests Interrupting line later r ≡ true → ⊥
     ended c r within h = false≢true (sym (kept nests line later c out r within) ∙ h)

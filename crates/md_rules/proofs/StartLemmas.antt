@@ -1,8 +1,7 @@
 -- What begins at a line.
-use Rattle.std.proofs.Common.{List, ◌≡◌, ◌≤◌, ◌<◌, ◌+◌, ℕ, refl, sym, ap, ◌∙◌, arith, Bool, true, false, cond, not, ◌&&◌, Option, Some, None, ◌⊎◌, inl, inr}
-use Rattle.std.specs.Option.{is_some}
-use Rattle.std.proofs.lemmas.Bool.{false≢true}
+use Rattle.std.proofs.Common.{List, ◌≡◌, refl, ap, ◌∙◌, Bool, true, false, cond, ◌&&◌, Option, Some, None, ◌⊎◌, inl, inr}
 use Rattle.md_tree.specs.declared.event.HeadingLevel.{HeadingLevel}
+use Rattle.md_tree.proofs.Nodes.{and_left}
 use Rattle.md_lines.specs.Lines.{LineText}
 use Rattle.md_rules.specs.Code.{is_code}
 use Rattle.md_rules.specs.Fences.{fence_of}
@@ -11,6 +10,7 @@ use Rattle.md_rules.specs.Headings.{heading_level}
 use Rattle.md_rules.specs.Quotes.{quotes}
 use Rattle.md_rules.specs.Items.{marker_of}
 use Rattle.md_rules.specs.Tables.{starts_table}
+use Rattle.md_rules.specs.Definitions.{starts_definitions}
 use Rattle.md_rules.specs.Lists.{marker_at}
 use Rattle.md_rules.specs.Starts.{block_start, container_or, counted, counts, fence_or, heading_or, item_or, item_start, start_of_text}
 use Rattle.md_rules.specs.declared.fence.Fence.{Fence}
@@ -40,43 +40,48 @@ pub record EachStart (P : BlockStart → Type 0) (nests : Bool) (items : Items) 
   pub quote : NoLeaf line → nests ≡ true → quotes line ≡ true → P start.Quote
   pub item : (marker : Marker) → NoLeaf line → nests ≡ true → quotes line ≡ false → item_start items line ≡ Some marker → P (start.Item marker)
   pub table : NoLeaf line → NoContainer nests items line → starts_table line later ≡ true → P start.Table
-  pub paragraph : NoLeaf line → NoContainer nests items line → starts_table line later ≡ false → P start.Paragraph
+  pub definitions : NoLeaf line → NoContainer nests items line → starts_table line later ≡ false → (nests && starts_definitions line later) ≡ true → P start.Definitions
+  pub paragraph : NoLeaf line → NoContainer nests items line → starts_table line later ≡ false → (nests && starts_definitions line later) ≡ false → P start.Paragraph
 
 pub each-start : (P : BlockStart → Type 0) (nests : Bool) (items : Items) (line : LineText) (later : List LineText) → EachStart P nests items line later → P (block_start nests items line later)
 each-start P nests items line later each = coded (is_code line) refl
   where
-    text : NoLeaf line → NoContainer nests items line → P (start_of_text line later)
+    text : NoLeaf line → NoContainer nests items line → P (start_of_text nests line later)
     text no_leaf no_container = go (starts_table line later) refl
       where
-        go : (v : Bool) → starts_table line later ≡ v → P (cond v start.Table start.Paragraph)
-        go true e = each.table no_leaf no_container e
-        go false e = each.paragraph no_leaf no_container e
+        defining : starts_table line later ≡ false → (v : Bool) → (nests && starts_definitions line later) ≡ v → P (cond v start.Definitions start.Paragraph)
+        defining t true e = each.definitions no_leaf no_container t e
+        defining t false e = each.paragraph no_leaf no_container t e
 
-    itemized : NoLeaf line → nests ≡ true → quotes line ≡ false → (found : Option Marker) → item_start items line ≡ found → P (item_or found (start_of_text line later))
+        go : (v : Bool) → starts_table line later ≡ v → P (cond v start.Table (cond (nests && starts_definitions line later) start.Definitions start.Paragraph))
+        go true e = each.table no_leaf no_container e
+        go false e = defining e (nests && starts_definitions line later) refl
+
+    itemized : NoLeaf line → nests ≡ true → quotes line ≡ false → (found : Option Marker) → item_start items line ≡ found → P (item_or found (start_of_text nests line later))
     itemized no_leaf n q (Some marker) e = each.item marker no_leaf n q e
     itemized no_leaf n q None e = text no_leaf (inr (q, e))
 
-    quoting : NoLeaf line → nests ≡ true → (v : Bool) → quotes line ≡ v → P (cond v start.Quote (item_or (item_start items line) (start_of_text line later)))
+    quoting : NoLeaf line → nests ≡ true → (v : Bool) → quotes line ≡ v → P (cond v start.Quote (item_or (item_start items line) (start_of_text nests line later)))
     quoting no_leaf n true e = each.quote no_leaf n e
     quoting no_leaf n false e = itemized no_leaf n e (item_start items line) refl
 
-    nesting : NoLeaf line → (v : Bool) → nests ≡ v → P (container_or v items line (start_of_text line later))
+    nesting : NoLeaf line → (v : Bool) → nests ≡ v → P (container_or v items line (start_of_text nests line later))
     nesting no_leaf true e = quoting no_leaf e (quotes line) refl
     nesting no_leaf false e = text no_leaf (inl e)
 
-    headed : is_code line ≡ false → fence_of line ≡ None → is_thematic_break line ≡ false → (found : Option HeadingLevel) → heading_level line ≡ found → P (heading_or found (container_or nests items line (start_of_text line later)))
+    headed : is_code line ≡ false → fence_of line ≡ None → is_thematic_break line ≡ false → (found : Option HeadingLevel) → heading_level line ≡ found → P (heading_or found (container_or nests items line (start_of_text nests line later)))
     headed c f b (Some level) e = each.heading level c f b e
     headed c f b None e = nesting (record { code = c; fence = f; thematic_break = b; heading = e }) nests refl
 
-    broken : is_code line ≡ false → fence_of line ≡ None → (v : Bool) → is_thematic_break line ≡ v → P (cond v start.ThematicBreak (heading_or (heading_level line) (container_or nests items line (start_of_text line later))))
+    broken : is_code line ≡ false → fence_of line ≡ None → (v : Bool) → is_thematic_break line ≡ v → P (cond v start.ThematicBreak (heading_or (heading_level line) (container_or nests items line (start_of_text nests line later))))
     broken c f true e = each.thematic_break c f e
     broken c f false e = headed c f e (heading_level line) refl
 
-    fenced : is_code line ≡ false → (found : Option Fence) → fence_of line ≡ found → P (fence_or found (cond (is_thematic_break line) start.ThematicBreak (heading_or (heading_level line) (container_or nests items line (start_of_text line later)))))
+    fenced : is_code line ≡ false → (found : Option Fence) → fence_of line ≡ found → P (fence_or found (cond (is_thematic_break line) start.ThematicBreak (heading_or (heading_level line) (container_or nests items line (start_of_text nests line later)))))
     fenced c (Some fence) e = each.fence fence c e
     fenced c None e = broken c e (is_thematic_break line) refl
 
-    coded : (v : Bool) → is_code line ≡ v → P (cond v start.Code (fence_or (fence_of line) (cond (is_thematic_break line) start.ThematicBreak (heading_or (heading_level line) (container_or nests items line (start_of_text line later))))))
+    coded : (v : Bool) → is_code line ≡ v → P (cond v start.Code (fence_or (fence_of line) (cond (is_thematic_break line) start.ThematicBreak (heading_or (heading_level line) (container_or nests items line (start_of_text nests line later))))))
     coded true e = each.code e
     coded false e = fenced e (fence_of line) refl
 
@@ -104,7 +109,8 @@ start-item nests items line later m =
       quote = λ n q e h. none h;
       item = λ marker n c q e h. item_start-marker items line m (e ∙ h);
       table = λ n c e h. none h;
-      paragraph = λ n c e h. none h;
+      definitions = λ n c t e h. none h;
+      paragraph = λ n c t e h. none h;
     })
   where
     none : None ≡ Some m → marker_of line ≡ Some m
@@ -122,7 +128,8 @@ start-quote nests items line later =
       quote = λ text n q h. (n, q);
       item = λ marker text n q e h. cc;
       table = λ text none e h. cc;
-      paragraph = λ text none e h. cc;
+      definitions = λ text none t e h. cc;
+      paragraph = λ text none t e h. cc;
     })
 
 pub start-marker : (nests : Bool) (items : Items) (line : LineText) (later : List LineText) (m : Marker) → block_start nests items line later ≡ start.Item m → (nests ≡ true) × (marker_of line ≡ Some m)
@@ -136,7 +143,8 @@ start-marker nests items line later m =
       quote = λ text n q h. cc;
       item = λ marker text n q e h. (n, item_start-marker items line m (e ∙ ap marker_at h));
       table = λ text none e h. cc;
-      paragraph = λ text none e h. cc;
+      definitions = λ text none t e h. cc;
+      paragraph = λ text none t e h. cc;
     })
 
 pub start-table : (nests : Bool) (items : Items) (line : LineText) (later : List LineText) → block_start nests items line later ≡ start.Table → starts_table line later ≡ true
@@ -150,5 +158,21 @@ start-table nests items line later =
       quote = λ text n q h. cc;
       item = λ marker text n q e h. cc;
       table = λ text none e h. e;
-      paragraph = λ text none e h. cc;
+      definitions = λ text none t e h. cc;
+      paragraph = λ text none t e h. cc;
+    })
+
+pub start-definitions : (nests : Bool) (items : Items) (line : LineText) (later : List LineText) → block_start nests items line later ≡ start.Definitions → nests ≡ true
+start-definitions nests items line later =
+    each-start (λ s. s ≡ start.Definitions → nests ≡ true) nests items line later
+    (record {
+      code = λ e h. cc;
+      fence = λ fence c e h. cc;
+      thematic_break = λ c f e h. cc;
+      heading = λ level c f b e h. cc;
+      quote = λ text n q h. cc;
+      item = λ marker text n q e h. cc;
+      table = λ text none e h. cc;
+      definitions = λ text none t e h. and_left nests (starts_definitions line later) e;
+      paragraph = λ text none t e h. cc;
     })

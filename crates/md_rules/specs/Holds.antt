@@ -8,6 +8,7 @@ use Rattle.md_rules.specs.Headings.{heading_level}
 use Rattle.md_rules.specs.Quotes.{quotes}
 use Rattle.md_rules.specs.Items.{may_interrupt}
 use Rattle.md_rules.specs.Tables.{starts_table}
+use Rattle.md_rules.specs.Definitions.{starts_definitions}
 use Rattle.md_rules.specs.Starts.{item_start, place, rule_of}
 use Rattle.md_rules.specs.declared.rule.Rule.{Rule}
 use Rattle.md_rules.specs.declared.rule.Rule.TheVariants as rule
@@ -24,6 +25,7 @@ holds nests items line later rule.Heading = is_some (heading_level line)
 holds nests items line later rule.Quote = nests && quotes line
 holds nests items line later rule.Item = nests && is_some (item_start items line)
 holds nests items line later rule.Table = starts_table line later
+holds nests items line later rule.Definitions = nests && starts_definitions line later
 holds nests items line later rule.Paragraph = true
 
 -- it begins by the first rule that holds

@@ -1,5 +1,5 @@
 -- Items of lists.
-use Rattle.std.specs.Prelude.{ℕ, ◌+◌, ◌==◌, nat_le, Bool, true, false, not, ◌&&◌, ◌||◌, Option, None, Some, List, [], ◌∷◌, length, take, drop, map, slice_index_or, if◌then◌else◌}
+use Rattle.std.specs.Prelude.{ℕ, ◌+◌, ◌==◌, nat_le, Bool, true, false, not, ◌&&◌, ◌||◌, Option, None, Some, List, [], ◌∷◌, length, take, drop, slice_index_or, if◌then◌else◌}
 use Rattle.std.specs.List.{prefix_len}
 use Rattle.std.specs.Char.{is_ascii_digit}
 use Rattle.std.specs.Str.Parse.{digits_value}
@@ -9,6 +9,7 @@ use Rattle.md_rules.specs.Shallow.{is_shallow}
 use Rattle.md_rules.specs.Texts.{ends_word}
 use Rattle.md_rules.specs.Code.{hanging}
 use Rattle.md_rules.specs.Quotes.{less}
+use Rattle.md_rules.specs.Hung.{hung}
 use Rattle.md_rules.specs.declared.item.Marker.{Marker}
 
 abbrev pub is_bullet : ℕ → Bool
@@ -80,7 +81,7 @@ without_task (Some done) line = less 1 (line_of (drop 3 line.body))
 
 -- the lines of an item, whose first line, without its marker, is this
 abbrev pub item_lines : ℕ → LineText → List LineText → List LineText
-item_lines column first own = without_task (task_of first) first ∷ map (less column) own
+item_lines column first own = hung column (without_task (task_of first) first) own
 
 -- an item at which a paragraph ends is not empty, and its number, if it has one, is 1
 abbrev pub is_first_number : Option ℕ → Bool

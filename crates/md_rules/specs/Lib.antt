@@ -6,10 +6,13 @@ pub mod Code
 pub mod Fences
 pub mod ThematicBreaks
 pub mod Quotes
+pub mod Hung
 pub mod Items
 pub mod Tables
+pub mod Definitions
 pub mod Starts
 pub mod Holds
 pub mod Lists
+pub mod Entries
 pub mod Rows
 pub mod Cells

@@ -1,7 +1,7 @@
 -- What begins at a nonempty line.
-use Rattle.std.specs.Prelude.{ℕ, ◌==◌, nat_le, Bool, true, false, not, ◌&&◌, is_some, Option, None, Some, List, if◌then◌else◌}
+use Rattle.std.specs.Prelude.{ℕ, nat_le, Bool, true, false, ◌&&◌, Option, None, Some, List, if◌then◌else◌}
 use Rattle.md_tree.specs.declared.event.HeadingLevel.{HeadingLevel}
-use Rattle.md_lines.specs.Lines.{LineText, is_empty}
+use Rattle.md_lines.specs.Lines.{LineText}
 use Rattle.md_rules.specs.Code.{is_code}
 use Rattle.md_rules.specs.Fences.{fence_of}
 use Rattle.md_rules.specs.ThematicBreaks.{is_thematic_break}
@@ -9,6 +9,7 @@ use Rattle.md_rules.specs.Headings.{heading_level}
 use Rattle.md_rules.specs.Quotes.{quotes}
 use Rattle.md_rules.specs.Items.{may_interrupt, marker_of}
 use Rattle.md_rules.specs.Tables.{starts_table}
+use Rattle.md_rules.specs.Definitions.{starts_definitions}
 use Rattle.md_rules.specs.declared.fence.Fence.{Fence}
 use Rattle.md_rules.specs.declared.item.Marker.{Marker}
 use Rattle.md_rules.specs.declared.rule.Rule.{Rule}
@@ -45,9 +46,12 @@ abbrev pub item_or : Option Marker → BlockStart → BlockStart
 item_or (Some marker) others = start.Item marker
 item_or None others = others
 
--- the rules that are asked where no container begins
-abbrev pub start_of_text : LineText → List LineText → BlockStart
-start_of_text line later = if starts_table line later then start.Table else start.Paragraph
+-- the rules that are asked where no quote or item begins; definition lists begin where containers may stand
+abbrev pub start_of_text : Bool → LineText → List LineText → BlockStart
+start_of_text nests line later =
+    if starts_table line later then start.Table
+    else if nests && starts_definitions line later then start.Definitions
+    else start.Paragraph
 
 -- quotes and items, where containers may stand
 abbrev pub container_or : Bool → Items → LineText → BlockStart → BlockStart
@@ -59,7 +63,7 @@ block_start nests items line later =
     if is_code line then start.Code
     else fence_or (fence_of line)
     (if is_thematic_break line then start.ThematicBreak
-    else heading_or (heading_level line) (container_or nests items line (start_of_text line later)))
+    else heading_or (heading_level line) (container_or nests items line (start_of_text nests line later)))
 
 -- ---- ranges of rules
 
@@ -72,6 +76,7 @@ rule_of (start.Heading level) = rule.Heading
 rule_of start.Quote = rule.Quote
 rule_of (start.Item marker) = rule.Item
 rule_of start.Table = rule.Table
+rule_of start.Definitions = rule.Definitions
 rule_of start.Paragraph = rule.Paragraph
 
 -- the rules in their order
@@ -83,7 +88,8 @@ place rule.Heading = 3
 place rule.Quote = 4
 place rule.Item = 5
 place rule.Table = 6
-place rule.Paragraph = 7
+place rule.Definitions = 7
+place rule.Paragraph = 8
 
 -- one of the rules from the one to the other
 abbrev pub is_among : Rule → Rule → Rule → Bool
@@ -91,4 +97,4 @@ is_among first last r = nat_le (place first) (place r) && nat_le (place r) (plac
 
 -- a line at which a paragraph ends, since another block begins there
 abbrev pub interrupts : Bool → LineText → List LineText → Bool
-interrupts nests line later = is_among rule.Fence rule.Table (rule_of (block_start nests Interrupting line later))
+interrupts nests line later = is_among rule.Fence rule.Definitions (rule_of (block_start nests Interrupting line later))

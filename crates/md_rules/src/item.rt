@@ -8,6 +8,7 @@ ghost use Rattle.md_rules.specs.Quotes.{less};
 ghost use Rattle.md_rules.specs.Items.{digits, ends_number, has_number, is_bullet, is_first_number, is_task, item_column, item_line, item_lines, item_more, marker_in, marker_of, may_interrupt, numbered, task_by, task_of, without_task};
 
 use crate::code::hanging;
+use crate::hung::hung;
 use crate::quote::less;
 use crate::shallow::is_shallow;
 use crate::texts::ends_word;
@@ -197,14 +198,7 @@ pub fn item_lines<'a>(
 ) -> Result<Vec<Line<'a>>, AllocError>
     ensures { IfOk result (λ v. v.items ≡ item_lines column first.entry own.now) }
 {
-    let mut lines = Vec::new(alloc);
-    lines.push(without_task(first))?;
-    let mut at = 0;
-    while at < own.len() {
-        lines.push(less(column, &own[at]))?;
-        at += 1;
-    }
-    Ok(lines)
+    hung(alloc, column, without_task(first), own)
 }
 
 /// Whether an item of this number ends a paragraph.

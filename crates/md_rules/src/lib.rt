@@ -4,9 +4,12 @@
 mod attributes;
 mod cell;
 mod code;
+mod definitions;
 mod delimiter;
+mod entry;
 mod fence;
 mod heading;
+mod hung;
 mod item;
 pub mod laws;
 mod list;
@@ -21,7 +24,9 @@ mod thematic_break;
 
 pub use cell::Cells;
 pub use code::{hanging, text_from};
+pub use definitions::{description_lines, starts_definitions, title_of};
 pub use delimiter::alignments;
+pub use entry::{Entry, entries_more, next_entry};
 pub use fence::Fence;
 pub use heading::{Heading, heading_at};
 pub use item::{Marker, item_lines, marker_of, task_of};

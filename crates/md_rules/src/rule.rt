@@ -12,6 +12,7 @@ pub enum Rule {
     Quote,
     Item,
     Table,
+    Definitions,
     Paragraph,
 }
 
@@ -28,7 +29,8 @@ impl Rule {
             Rule::Quote => 4,
             Rule::Item => 5,
             Rule::Table => 6,
-            Rule::Paragraph => 7,
+            Rule::Definitions => 7,
+            Rule::Paragraph => 8,
         }
     }
 

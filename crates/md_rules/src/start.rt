@@ -4,6 +4,7 @@ ghost use Rattle.md_rules.specs.Items.{marker_of};
 ghost use Rattle.md_rules.specs.Starts.{block_start, container_or, counted, counts, interrupts, item_start, rule_of, start_of_text};
 
 use crate::code::is_code;
+use crate::definitions::starts_definitions;
 use crate::fence::{Fence, fence_of};
 use crate::heading::heading_level;
 use crate::item::{Marker, marker_of, may_interrupt};
@@ -37,6 +38,8 @@ pub enum BlockStart<'a> {
     /// A list whose first item has this marker.
     Item(Marker),
     Table,
+    /// A definition list whose first title is the line.
+    Definitions,
     /// What no other rule takes.
     Paragraph,
 }
@@ -54,6 +57,7 @@ impl<'a> BlockStart<'a> {
             BlockStart::Quote => Rule::Quote,
             BlockStart::Item(_) => Rule::Item,
             BlockStart::Table => Rule::Table,
+            BlockStart::Definitions => Rule::Definitions,
             BlockStart::Paragraph => Rule::Paragraph,
         }
     }
@@ -80,12 +84,14 @@ fn item_start(items: Items, line: &Line) -> Option<Marker>
     }
 }
 
-/// What begins at the line where no container does.
-fn start_of_text<'a>(line: &Line<'a>, later: &[Line<'a>]) -> BlockStart<'a>
-    ensures { result ≡ start_of_text line.now later.now }
+/// What begins at the line where no quote or item does, where containers may stand or not.
+fn start_of_text<'a>(nests: bool, line: &Line<'a>, later: &[Line<'a>]) -> BlockStart<'a>
+    ensures { result ≡ start_of_text nests line.now later.now }
 {
     if starts_table(line, later) {
         BlockStart::Table
+    } else if nests && starts_definitions(line, later) {
+        BlockStart::Definitions
     } else {
         BlockStart::Paragraph
     }
@@ -113,14 +119,14 @@ pub fn block_start<'a>(
         return BlockStart::Heading(level);
     }
     if !nests {
-        return start_of_text(line, later);
+        return start_of_text(nests, line, later);
     }
     if quotes(line) {
         return BlockStart::Quote;
     }
     match item_start(items, line) {
         Some(marker) => BlockStart::Item(marker),
-        None => start_of_text(line, later),
+        None => start_of_text(nests, line, later),
     }
 }
 
@@ -130,5 +136,5 @@ pub fn interrupts(nests: bool, line: &Line, later: &[Line]) -> bool
 {
     block_start(nests, Items::Interrupting, line, later)
         .rule()
-        .is_among(Rule::Fence, Rule::Table)
+        .is_among(Rule::Fence, Rule::Definitions)
 }

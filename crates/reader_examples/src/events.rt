@@ -102,6 +102,9 @@ fn show_start(shown: &mut String, tag: &Tag) -> Result<(), AllocError> {
         Tag::TableHead => shown.push_str("<head>"),
         Tag::TableRow => shown.push_str("<row>"),
         Tag::TableCell => shown.push_str("["),
+        Tag::DefinitionList => shown.push_str("<dl>"),
+        Tag::DefinitionListTitle => shown.push_str("<dt>"),
+        Tag::DefinitionListDefinition => shown.push_str("<dd>"),
         Tag::Strong => shown.push_str("<b>"),
         _ => shown.push_str("?"),
     }
@@ -123,6 +126,9 @@ fn show_end(shown: &mut String, tag: TagEnd) -> Result<(), AllocError> {
         TagEnd::TableHead => shown.push_str("</head>"),
         TagEnd::TableRow => shown.push_str("</row>"),
         TagEnd::TableCell => shown.push_str("]"),
+        TagEnd::DefinitionList => shown.push_str("</dl>"),
+        TagEnd::DefinitionListTitle => shown.push_str("</dt>"),
+        TagEnd::DefinitionListDefinition => shown.push_str("</dd>"),
         TagEnd::Strong => shown.push_str("</b>"),
         _ => shown.push_str("?"),
     }
@@ -284,13 +290,13 @@ fn quotes_stand_in_quotes(rt: HostRuntime) -> Result<(), Fail> {
 
 #[test]
 fn containers_stand_thirty_two_levels_deep(rt: HostRuntime) -> Result<(), Fail> {
-    let marks = ">>>>>>>>>>>>>>>>>>>>>>>>>>>>>>>>> - a\n";
+    let marks = ">>>>>>>>>>>>>>>>>>>>>>>>>>>>>>>>> - a\n>>>>>>>>>>>>>>>>>>>>>>>>>>>>>>>>: b\n";
     let shown = shown(&rt, rt.alloc(), marks)?;
     let mut wanted = String::new(rt.alloc());
     for _ in 0..32 {
         wanted.push_str("<quote>")?;
     }
-    wanted.push_str("<p>(> - a)</p>")?;
+    wanted.push_str("<p>(> - a)/(: b)</p>")?;
     for _ in 0..32 {
         wanted.push_str("</quote>")?;
     }
@@ -446,21 +452,81 @@ fn tables_have_a_head_and_rows(rt: HostRuntime) -> Result<(), Fail> {
 }
 
 #[test]
+fn titles_stand_directly_over_descriptions(rt: HostRuntime) -> Result<(), Fail> {
+    let rows = [
+        ("a\nb\n: c", "<p>(a)</p><dl><dt>(b)</dt><dd>(c)</dd></dl>"),
+        ("a\n\n: b", "<p>(a)</p><p>(: b)</p>"),
+        (
+            "a\n: b\n\n: c\n\nd\n: e",
+            "<dl><dt>(a)</dt><dd>(b)</dd><dd>(c)</dd><dt>(d)</dt><dd>(e)</dd></dl>",
+        ),
+        (
+            " **a** \t\n:\tb",
+            "<dl><dt><b>(a)</b></dt><dd>(b)</dd></dl>",
+        ),
+        ("a\n:b\n:", "<p>(a)/(:b)/(:)</p>"),
+        (": a\n: b", "<p>(: a)/(: b)</p>"),
+        ("a\n    : b", "<p>(a)/(: b)</p>"),
+        (
+            "a\n: b\n# c\n: d\n\n\n",
+            "<dl><dt>(a)</dt><dd>(b)</dd></dl><h1>(c)</h1><p>(: d)</p>",
+        ),
+        (
+            "a\n: b\nc\n\n: d",
+            "<dl><dt>(a)</dt><dd>(b)</dd></dl><p>(c)</p><p>(: d)</p>",
+        ),
+        (
+            "> - a\n>   : b\n>   c\n> : d",
+            "<quote><list><item><dl><dt>(a)</dt><dd>(b)</dd></dl>(c)</item></list><p>(: d)</p></quote>",
+        ),
+        (
+            "|a|\n|-|\n|b|\n: c",
+            "<table -><head>[(a)]</head><row>[(b)]</row></table><p>(: c)</p>",
+        ),
+    ];
+    compare(&rt, rt.alloc(), &rows)
+}
+
+#[test]
+fn descriptions_hold_blocks(rt: HostRuntime) -> Result<(), Fail> {
+    let rows = [
+        (
+            "T\n: \n\n  x\n  > y",
+            "<dl><dt>(T)</dt><dd><p>(x)</p><quote><p>(y)</p></quote></dd></dl>",
+        ),
+        (
+            "T\n: x\n  > y\n\n",
+            "<dl><dt>(T)</dt><dd>(x)<quote><p>(y)</p></quote></dd></dl>",
+        ),
+        (
+            "T\n   : a\n    : b",
+            "<dl><dt>(T)</dt><dd>(a)</dd></dl><indented>(: b)(\n)</code>",
+        ),
+        (
+            "T\n : a\n\n   b\n  c",
+            "<dl><dt>(T)</dt><dd><p>(a)</p><p>(b)</p></dd></dl><p>(c)</p>",
+        ),
+        (
+            "T\n:     a\n  b\n  : c",
+            "<dl><dt>(T)</dt><dd><indented>(a)(\n)</code><dl><dt>(b)</dt><dd>(c)</dd></dl></dd></dl>",
+        ),
+        (
+            "T\n: - a\n\n    b\n: c",
+            "<dl><dt>(T)</dt><dd><list><item><p>(a)</p><p>(b)</p></item></list></dd><dd>(c)</dd></dl>",
+        ),
+        (
+            "T\n: a\n\n\n  b\nU\n: c\n  d",
+            "<dl><dt>(T)</dt><dd><p>(a)</p><p>(b)</p></dd><dt>(U)</dt><dd>(c)/(d)</dd></dl>",
+        ),
+    ];
+    compare(&rt, rt.alloc(), &rows)
+}
+
+#[test]
 fn some_forms_are_not_built(rt: HostRuntime) {
     assert!(rt; built("Hello, *world*! [a](b:c)\r\n---\n|1. > - :\r      \n\tc\n```"));
-    assert!(rt; built("Note: this\n- a: b\n> 1. c:\td\nax : y x: z\r::\n:"));
-    for text in [
-        "a$",
-        "<b",
-        "![a",
-        "[^a",
-        ": b",
-        "a\n:\tb",
-        "a\r> - 1) : b",
-        "- [x] : b",
-        "---",
-        "---  \na",
-    ] {
+    assert!(rt; built("Note: this\n: a\n- [x] : b\n\n---\n"));
+    for text in ["a$", "<b", "![a", "[^a", "---", "---  \na"] {
         assert!(rt; !built(text));
     }
 }

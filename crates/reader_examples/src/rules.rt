@@ -64,6 +64,9 @@ fn a_line_begins_by_the_first_rule_that_holds(rt: HostRuntime) -> Result<(), Fai
         ("> - a", false, Rule::Paragraph),
         ("2. a | b\n-|-", true, Rule::Item),
         ("2. a | b\n-|-", false, Rule::Table),
+        ("2. a\n: b", true, Rule::Item),
+        ("2. a\n: b", false, Rule::Paragraph),
+        ("a\n: b", true, Rule::Definitions),
         ("a", true, Rule::Paragraph),
     ];
     for (text, nests, rule) in rows {
@@ -90,6 +93,9 @@ fn some_blocks_end_a_paragraph(rt: HostRuntime) -> Result<(), Fail> {
         ("2. a", true, false),
         ("-", true, false),
         ("2. a | b\n-|-", true, true),
+        ("a\n:\tb", true, true),
+        ("a\n:\tb", false, false),
+        (": a\n: b", true, false),
         ("    a", true, false),
     ];
     for (text, nests, ends) in rows {

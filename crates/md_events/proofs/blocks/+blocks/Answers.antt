@@ -7,7 +7,7 @@ use Rattle.md_rules.specs.declared.start.Items.TheVariants.{All}
 use Rattle.md_rules.specs.Code.{hanging}
 use Rattle.md_rules.proofs.StartLemmas.{start-table}
 use Rattle.md_events.specs.CodeBlocks.{code_lines}
-use Rattle.std.specs.Result.{IfOk, OnOk}
+use Rattle.std.specs.Result.{OnOk}
 use Rattle.md_tree.specs.declared.event.Event.{Event}
 use Rattle.md_tree.specs.declared.event.Event.TheVariants.{End}
 use Rattle.md_tree.specs.declared.event.Tag.TheVariants as tag
@@ -22,9 +22,14 @@ use Rattle.md_events.specs.Written.{empty_front, front_paragraph, nests}
 use Rattle.md_rules.proofs.ListLemmas.{next_item-marker}
 use Rattle.md_rules.proofs.Slices.{length-slice, slice-rest}
 use Rattle.md_events.proofs.ContainerSteps.{first_marker-some, item-turn, item-written, items-empty-turn, items-end, items-stop, list-written, quote-lines, quote-within, quote-written}
+use Rattle.md_rules.specs.declared.entry.Entry.{Entry}
+use Rattle.md_rules.specs.Entries.{entry_more, next_entry}
+use Rattle.md_rules.proofs.EntryLemmas.{next_entry-description}
+use Rattle.md_events.specs.Definitions.{entries, entry_tag, in_entry, in_title}
+use Rattle.md_events.proofs.DefinitionSteps.{definitions-written, description-written, entries-empty-turn, entries-end, entries-stop, entry-turn}
 use Rattle.md_events.proofs.TaskSteps.{mark-first, marked-blocks}
 use Rattle.md_events.proofs.Steps.{block-turn, blocks-end, empty-turn}
-use Rattle.md_events.proofs.RuleSteps.{block-is, from-first, less-one, list-events, list-is, own-lines, quote-events, quote-is}
+use Rattle.md_events.proofs.RuleSteps.{block-is, definitions-is, from-first, less-one, list-events, list-is, own-lines, quote-events, quote-is}
 use Rattle.md_events.proofs.blocks.+blocks.Goals as goal
 
 pub write_block-overflow_sub-levels : goal.write_block-overflow_sub-levels
@@ -210,3 +215,78 @@ write_quote-returns-clause-lines t c = let count = quote-lines c.args.levels c.a
 
 pub write_quote-returns-clause-within : goal.write_quote-returns-clause-within
 write_quote-returns-clause-within t c = quote-within c.args.levels c.args.lines.now c.as_slice-inside.result.now c.requires (c.as_slice-inside.ensures.value ∙ c.in_ok-inside.ensures)
+
+pub write_block-overflow_sub-levels-in-Definitions : goal.write_block-overflow_sub-levels-in-Definitions
+write_block-overflow_sub-levels-in-Definitions t c =
+    let first = from-first c.args.lines.now c.index-lines-0.result (take (length c.args.lines.now - 1) (drop 1 c.args.lines.now)) c.requires c.index-lines-0.is (slice-rest 1 c.args.lines.now) in
+    (definitions-is c.args.levels c.args.lines.now c.index-lines-0.result (take (length c.args.lines.now - 1) (drop 1 c.args.lines.now)) c.nests-nests.result first c.nests-nests.ensures (sym c.block_start.ensures ∙ c.in-Definitions.is)).1
+
+pub write_block-write_definitions-requires : goal.write_block-write_definitions-requires
+write_block-write_definitions-requires t c =
+    let first = from-first c.args.lines.now c.index-lines-0.result (take (length c.args.lines.now - 1) (drop 1 c.args.lines.now)) c.requires c.index-lines-0.is (slice-rest 1 c.args.lines.now) in
+    let some : 0 < c.args.levels = (definitions-is c.args.levels c.args.lines.now c.index-lines-0.result (take (length c.args.lines.now - 1) (drop 1 c.args.lines.now)) c.nests-nests.result first c.nests-nests.ensures (sym c.block_start.ensures ∙ c.in-Definitions.is)).1 in
+    omega (arith, some)
+
+pub write_block-returns-in-Definitions-clause-written : goal.write_block-returns-in-Definitions-clause-written
+write_block-returns-in-Definitions-clause-written t c =
+    let lines : List LineText = c.args.lines.now in
+    let line : LineText = c.index-lines-0.result in
+    let later : List LineText = take (length lines - 1) (drop 1 lines) in
+    let first = from-first lines line later c.requires c.index-lines-0.is (slice-rest 1 lines) in
+    let found = (definitions-is c.args.levels lines line later c.nests-nests.result first c.nests-nests.ensures (sym c.block_start.ensures ∙ c.in-Definitions.is)).0 in
+    subst (λ (x : List Event). OnOk c.write_definitions.result (c.write_definitions.new.out.items ≡ c.args.out.now.items ++ x)) (sym (ap (block_events c.args.tight) found)) c.write_definitions.ensures.written
+
+pub write_definitions-returns-clause-written : goal.write_definitions-returns-clause-written
+write_definitions-returns-clause-written t c =
+    definitions-written c.args.levels c.args.line.now c.args.later.now _ _
+    (c.in_ok-push-2.ensures.items
+    ∙ ap (λ x. x ++ End end.DefinitionList ∷ [])
+    (c.in_ok-write_entries.ensures
+    ∙ ap (λ x. x ++ events (entries (blocks c.args.levels) 0 c.args.later.now)) (c.in_ok-write_title.ensures ∙ ap (λ x. x ++ events (Branch tag.DefinitionListTitle (in_title c.args.line.now) Empty)) c.in_ok-push.ensures.items)))
+
+pub write_description-returns : goal.write_description-returns
+write_description-returns t c =
+    let inside : List LineText = c.as_slice.result.now in
+    description-written c.args.levels c.args.line.now c.args.own.now inside (not c.is_loose.result) _ _ (c.as_slice.ensures.value ∙ c.in_ok-inside.ensures) (ap not c.is_loose.ensures)
+    (c.in_ok-push-2.ensures.items
+    ∙ ap (λ x. x ++ End end.DefinitionListDefinition ∷ [])
+    (c.in_ok-write_blocks.ensures ∙ ap (λ x. x ++ events (blocks c.args.levels (not c.is_loose.result) inside)) c.in_ok-push.ensures.items))
+
+pub write_entries-loop-at-preserved-then-is_empty : goal.write_entries-loop-at-preserved-then-is_empty
+write_entries-loop-at-preserved-then-is_empty t c = (
+  omega arith,
+  entries-empty-turn (blocks c.args.levels) c.args.lines.now c.loop-at.at c.index-lines-at.result _ _ c.loop-at-test.true
+      (ap is_empty (sym c.index-lines-at.is) ∙ (sym c.is_empty.ensures ∙ c.if-is_empty.true)) c.loop-at.invariant.1,
+)
+
+pub write_entries-write_entry-requires : goal.write_entries-write_entry-requires
+write_entries-write_entry-requires t c =
+    (search rules, λ e. next_entry-description c.index-lines-at.result _ (sym c.next_entry.ensures ∙ (c.in-Some.is ∙ ap Some e)))
+
+pub write_entries-loop-at-preserved : goal.write_entries-loop-at-preserved
+write_entries-loop-at-preserved t c =
+    let at : ℕ = c.loop-at.at in
+    let lines : List LineText = c.args.lines.now in
+    let later : List LineText = drop (at + 1) lines in
+    let entry : Entry = c.in-Some.entry in
+    let line : LineText = c.index-lines-at.result in
+    let rest = slice-rest (at + 1) lines in
+    let found : next_entry line later ≡ Some entry = ap (next_entry line) (sym rest) ∙ (sym c.next_entry.ensures ∙ c.in-Some.is) in
+    let own : c.entry_more-own.result ≡ entry_more entry line later = c.entry_more-own.ensures.value ∙ ap (entry_more entry line) rest in
+    let count : at + 1 + c.entry_more-own.result - (at + 1) ≡ c.entry_more-own.result = omega arith in (
+      omega (arith, length-slice (at + 1) lines, c.entry_more-own.ensures.within, c.loop-at-test.true),
+      entry-turn (blocks c.args.levels) lines later at c.entry_more-own.result line entry _ _ _ c.loop-at-test.true c.index-lines-at.is refl
+          (sym c.is_empty.ensures ∙ c.if-is_empty.false) found own
+          (c.in_ok-write_entry.ensures ∙ ap (λ k. c.loop-at.out.items ++ events (Branch (entry_tag entry) (in_entry (blocks c.args.levels) entry line (take k later)) Empty)) count)
+          c.loop-at.invariant.1,
+    )
+
+pub write_entries-returns-after-loop-at : goal.write_entries-returns-after-loop-at
+write_entries-returns-after-loop-at t c = entries-end (blocks c.args.levels) c.args.lines.now c.loop-at.at _ _ c.loop-at-test.false c.loop-at.invariant.1
+
+pub write_entries-returns-in_default : goal.write_entries-returns-in_default
+write_entries-returns-in_default t c =
+    let later : List LineText = drop (c.loop-at.at + 1) c.args.lines.now in
+    entries-stop (blocks c.args.levels) c.args.lines.now later c.loop-at.at c.index-lines-at.result _ _ c.loop-at-test.true c.index-lines-at.is refl
+    (sym c.is_empty.ensures ∙ c.if-is_empty.false)
+    (ap (next_entry c.index-lines-at.result) (sym (slice-rest (c.loop-at.at + 1) c.args.lines.now)) ∙ (sym c.next_entry.ensures ∙ c.in_default.is)) c.loop-at.invariant.1

@@ -1,4 +1,4 @@
-use Rattle.std.proofs.Common.{◌≡◌, ◌++◌, ap, sym, subst, ◌∙◌, map, List}
+use Rattle.std.proofs.Common.{◌≡◌, ◌++◌, ap, sym, subst, map, List}
 use Rattle.std.specs.Result.{OnOk}
 use Rattle.md_lines.specs.Lines.{body_of}
 use Rattle.md_tree.specs.declared.event.Event.{Event}

@@ -1,4 +1,4 @@
-use Rattle.std.proofs.Common.{◌≡◌, ◌++◌, ◌-◌, ◌∷◌, [], length, take, drop, ap, sym, ◌∙◌, List, refl, arith}
+use Rattle.std.proofs.Common.{◌≡◌, ◌++◌, ◌-◌, ◌∷◌, [], length, take, drop, ap, ◌∙◌, List}
 use Rattle.md_tree.specs.declared.event.Event.{Event}
 use Rattle.md_tree.specs.declared.event.Event.TheVariants.{End}
 use Rattle.md_tree.specs.declared.event.Tag.TheVariants as tag
