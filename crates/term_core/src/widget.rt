@@ -48,8 +48,14 @@ impl std::error::Error for WidgetError {}
 /// A widget keeps the buffer's area, changes no cell outside the area that it is given,
 /// and changes none at all where it is refused.
 pub trait Widget {
+    /// What a widget needs so that it may be drawn: nothing, unless it says so.
+    ///
+    /// A widget that calls a function of its user's asks here that it may be called.
+    ghost can_render: { Self → Type 0 } = { λ _. Unit {0} };
+
     /// Draws into the area, as far as the buffer has it.
     fn render(self, alloc: Global, area: Rect, buf: &mut Buffer) -> Result<(), WidgetError>
+        requires { can_render self }
         ensures area { buf.new.area ≡ buf.old.area }
         ensures outside { (x y : ℕ) → has_place area x y ≡ false → cell_at buf.new x y ≡ cell_at buf.old x y }
         ensures err { OnErr result (buf.new ≡ buf.old) };

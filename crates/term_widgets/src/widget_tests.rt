@@ -382,7 +382,9 @@ fn framed<W: Widget + Drop>(
     widget: W,
     area: Rect,
     buf: &mut Buffer,
-) -> Result<(), WidgetError> {
+) -> Result<(), WidgetError>
+    requires { W.can_render widget }
+{
     let block = Block::bordered();
     (&block).render(alloc, area, buf)?;
     widget.render(alloc, block.inner(area), buf)
