@@ -1,5 +1,8 @@
 -- A run over the inlines in a cell adds their pieces to it.
-use Rattle.std.proofs.Common.{◌≡◌, List, ◌∷◌, ◌++◌, Bool, true, refl, ap, sym, ◌∙◌}
+use Rattle.std.proofs.Common.{◌≡◌, ℕ, List, [], ◌∷◌, ◌++◌, Bool, true, refl, ap, sym, ◌∙◌}
+use Rattle.std.specs.Str.Lines.{lines}
+use Rattle.term_text.specs.declared.style.Style.{Style}
+use Rattle.term_text.specs.Style.{patch}
 use Rattle.term_text.specs.Text.{SpanView, LineView}
 use Rattle.md_tree.specs.declared.event.Event.{Event}
 use Rattle.md_tree.specs.declared.event.Event.TheVariants as event
@@ -12,11 +15,11 @@ use Rattle.md_table.specs.Sheet.{Sheet}
 use Rattle.md_text.specs.declared.environment.Environment.{Environment}
 use Rattle.md_text.specs.declared.environment.Spacing.{Spacing}
 use Rattle.md_text.specs.Marks.{styled_span}
-use Rattle.md_text.specs.Spans.{pieces_of}
+use Rattle.md_text.specs.Spans.{piece, pieces_of}
 use Rattle.md_text.specs.Look.{Look}
 use Rattle.md_text.specs.Environment.{environment_inside}
-use Rattle.md_text.specs.Inlines.{link_spans}
-use Rattle.md_text.specs.Tables.{flat_leaf, flat_behind, flat}
+use Rattle.md_text.specs.Inlines.{display_math, inline_math, link_spans, reference}
+use Rattle.md_text.specs.Tables.{flat_leaf, flat_lines, flat_behind, flat}
 use Rattle.md_text.specs.State.{Begun, with_spans, ended_in_table, run}
 use Rattle.md_text.proofs.States.{within_cell, cell_state}
 use Rattle.md_text.proofs.GoodNodes.{good-behind_leaf, good-tag, good-inside, good-behind}
@@ -24,9 +27,19 @@ use Rattle.md_text.proofs.PieceSpans.{pieces_of-append, pieces_of-piece, pieces_
 
 -- ---- each of them has a text
 
+flat_lines-pieces : (style : Style) (all : List (List ℕ)) → pieces_of (flat_lines style all) ≡ flat_lines style all
+flat_lines-pieces style [] = refl
+flat_lines-pieces style (line ∷ others) =
+    pieces_of-append (piece (styled_span line style)) (flat_lines style others)
+    ∙ rw (pieces_of-piece (styled_span line style), flat_lines-pieces style others) refl
+
 flat_leaf-pieces : (sheet : Sheet) (env : Environment) (e : Event) → pieces_of (flat_leaf sheet env e) ≡ flat_leaf sheet env e
 flat_leaf-pieces sheet env (event.Text bytes) = pieces_of-piece (styled_span bytes env.inline_style)
 flat_leaf-pieces sheet env (event.Code bytes) = pieces_of-piece (styled_span bytes sheet.code)
+flat_leaf-pieces sheet env (event.InlineHtml bytes) = pieces_of-piece (styled_span bytes (patch env.inline_style sheet.html))
+flat_leaf-pieces sheet env (event.InlineMath bytes) = pieces_of-piece (styled_span (inline_math bytes) (patch env.inline_style sheet.math_inline))
+flat_leaf-pieces sheet env (event.DisplayMath bytes) = flat_lines-pieces sheet.math_display (lines (display_math bytes))
+flat_leaf-pieces sheet env (event.FootnoteReference label) = pieces_of-piece (styled_span (reference label) (patch env.inline_style sheet.footnote_ref))
 flat_leaf-pieces sheet env e = refl
 
 flat_behind-pieces : (sheet : Sheet) (t : Tag) → pieces_of (flat_behind sheet t) ≡ flat_behind sheet t

@@ -7,6 +7,7 @@ pub mod Each
 pub mod TextLines
 pub mod Words
 pub mod CodeInside
+pub mod FlatLines
 pub mod FlatRuns
 pub mod TableRuns
 pub mod Widths

@@ -2,7 +2,8 @@
 use Rattle.std.proofs.Common.{◌≡◌, ℕ, List, [], ◌∷◌, ◌++◌, Bool, true, false, ◌&&◌, ◌==◌, if◌then◌else◌, Option, None, Some, codes, length, refl, ap, ◌∙◌}
 use Rattle.std.proofs.lemmas.List.{append-nil}
 use Rattle.std.specs.Str.Lines.{lines}
-use Rattle.term_text.specs.Style.{no_style}
+use Rattle.term_text.specs.declared.style.Style.{Style}
+use Rattle.term_text.specs.Style.{no_style, patch}
 use Rattle.term_text.specs.Text.{SpanView, LineView}
 use Rattle.md_tree.specs.declared.event.BlockQuoteKind.{BlockQuoteKind}
 use Rattle.md_tree.specs.declared.event.CodeBlockKind.{CodeBlockKind}
@@ -28,7 +29,9 @@ use Rattle.md_text.specs.Environment.{environment_inside, environment_after}
 use Rattle.md_text.specs.Headings.{level_number, with_blank, heading, attribute_suffix}
 use Rattle.md_text.specs.Spans.{piece, pieces_of, each_pieces}
 use Rattle.md_text.specs.Blocks.{paragraph, enter, leave}
-use Rattle.md_text.specs.Inlines.{begin_line, text_lines, rule, link_spans, leaf}
+use Rattle.md_text.specs.Inlines.{begin_line, text_lines, display_math, inline_math, joined_text, math_environment, reference, rule, soft_break, link_spans, leaf}
+use Rattle.md_text.specs.Html.{html_block, html_environment}
+use Rattle.md_text.specs.Notes.{footnote, label, metadata}
 use Rattle.md_text.specs.Code.{info, recognised, code_environment, fence, coloured_line, answered_line, code_lines, apart, code_block}
 use Rattle.md_text.specs.Texts.{texts}
 use Rattle.md_text.specs.Alerts.{alert_of}
@@ -99,12 +102,32 @@ puts-rule : (env : Environment) (due : Bool) (f : Fresh) (any : Bool) →
 puts-rule env true f any = refl
 puts-rule env false f any = refl
 
+puts-joined : (env : Environment) (spacing : Spacing) (bytes : List ℕ) (style : Style) → puts (joined_text env spacing bytes style).marks ≡ piece (styled_span bytes style)
+puts-joined env spacing bytes style =
+    let a = join_laid env spacing in
+    puts2 a.marks (put_laid a.after (styled_span bytes style)).marks [] (piece (styled_span bytes style))
+    (puts-join env spacing.due spacing.fresh spacing.any_line) (puts-put a.after (styled_span bytes style))
+
+puts-soft_break : (env : Environment) (spacing : Spacing) → puts (soft_break env spacing).marks ≡ (if env.in_metadata then [] else plain_span (codes " ") ∷ [])
+puts-soft_break env spacing = by_test env.in_metadata
+  where
+    by_test : (b : Bool) → puts (if b then open_laid env spacing else put_laid spacing (plain_span (codes " "))).marks ≡ (if b then [] else plain_span (codes " ") ∷ [])
+    by_test true = refl
+    by_test false = refl
+
+-- lines, and then nothing
+puts-text_lines-then : (env : Environment) (spacing : Spacing) (all : List (List ℕ)) → puts ((text_lines true env spacing all).marks ++ []) ≡ line_pieces env all
+puts-text_lines-then env spacing all =
+    ap (λ (marks : List Mark). puts marks) (append-nil (text_lines true env spacing all).marks) ∙ puts-text_lines true env spacing all
+
 puts-leaf : (sheet : Sheet) (env : Environment) (spacing : Spacing) (e : Event) → puts (leaf sheet env spacing e).marks ≡ leaf_pieces sheet env e
 puts-leaf sheet env spacing (event.Text bytes) = puts-text_lines true env spacing (lines bytes)
-puts-leaf sheet env spacing (event.Code bytes) =
-    let a = join_laid env spacing in
-    puts2 a.marks (put_laid a.after (styled_span bytes sheet.code)).marks [] (piece (styled_span bytes sheet.code))
-    (puts-join env spacing.due spacing.fresh spacing.any_line) (puts-put a.after (styled_span bytes sheet.code))
+puts-leaf sheet env spacing (event.Code bytes) = puts-joined env spacing bytes sheet.code
+puts-leaf sheet env spacing (event.InlineHtml bytes) = puts-joined env spacing bytes (patch env.inline_style sheet.html)
+puts-leaf sheet env spacing (event.InlineMath bytes) = puts-joined env spacing (inline_math bytes) (patch env.inline_style sheet.math_inline)
+puts-leaf sheet env spacing (event.DisplayMath bytes) = puts-text_lines-then (math_environment sheet env) spacing (lines (display_math bytes))
+puts-leaf sheet env spacing (event.FootnoteReference label) = puts-joined env spacing (reference label) (patch env.inline_style sheet.footnote_ref)
+puts-leaf sheet env spacing event.SoftBreak = puts-soft_break env spacing
 puts-leaf sheet env spacing event.Rule = puts-rule env spacing.due spacing.fresh spacing.any_line
 puts-leaf sheet env spacing e = refl
 
@@ -200,22 +223,38 @@ puts-list env s = by_test (env.depth == 0)
     by_test true = puts-gap env s.due s.fresh s.any_line
     by_test false = refl
 
+puts-footnote : (sheet : Sheet) (env : Environment) (due : Bool) (f : Fresh) (any : Bool) (bytes : List ℕ) →
+    puts (footnote sheet env (record { due = due; fresh = f; any_line = any }) bytes).marks ≡ piece (styled_span (label bytes) sheet.footnote_def)
+puts-footnote sheet env true f any bytes = puts-put-then (record { due = true; fresh = fresh.No; any_line = true }) (styled_span (label bytes) sheet.footnote_def)
+puts-footnote sheet env false f any bytes = puts-put-then (record { due = false; fresh = fresh.No; any_line = true }) (styled_span (label bytes) sheet.footnote_def)
+
+puts-metadata : (sheet : Sheet) (env : Environment) (due : Bool) (f : Fresh) (any : Bool) →
+    puts (metadata sheet env (record { due = due; fresh = f; any_line = any })).marks ≡ plain_span (codes "---") ∷ []
+puts-metadata sheet env true f any = refl
+puts-metadata sheet env false f any = refl
+
+puts-html_block : (sheet : Sheet) (env : Environment) (due : Bool) (f : Fresh) (any : Bool) (bytes : List ℕ) →
+    puts (html_block sheet env (record { due = due; fresh = f; any_line = any }) bytes).marks ≡ line_pieces (html_environment sheet env) (lines bytes)
+puts-html_block sheet env true f any bytes =
+    puts-text_lines-then (html_environment sheet env) (record { due = false; fresh = fresh.No; any_line = true }) (lines bytes)
+puts-html_block sheet env false f any bytes =
+    puts-text_lines-then (html_environment sheet env) (record { due = false; fresh = fresh.No; any_line = true }) (lines bytes)
+
 puts-enter : (sheet : Sheet) (env : Environment) (s : Spacing) (t : Tag) → puts (enter sheet env s t).marks ≡ pieces_before sheet env t
 puts-enter sheet env s tag.Paragraph = puts-paragraph env s.due s.fresh s.any_line
 puts-enter sheet env s (tag.Heading level id classes attrs) = puts-heading sheet env s.due s.fresh s.any_line level
 puts-enter sheet env s (tag.BlockQuote kind) = puts-quote sheet env s kind
 puts-enter sheet env s (tag.List start) = puts-list env s
 puts-enter sheet env s tag.Item = puts-put-then (record { due = s.due; fresh = fresh.No; any_line = true }) (marker sheet env.depth env.number)
-puts-enter sheet env s tag.HtmlBlock = puts-paragraph env s.due s.fresh s.any_line
-puts-enter sheet env s tag.DefinitionListTitle = puts-paragraph env s.due s.fresh s.any_line
-puts-enter sheet env s tag.DefinitionListDefinition = puts-paragraph env s.due s.fresh s.any_line
-puts-enter sheet env s tag.MetadataBlock = puts-paragraph env s.due s.fresh s.any_line
+puts-enter sheet env s (tag.FootnoteDefinition label) = puts-footnote sheet env s.due s.fresh s.any_line label
+puts-enter sheet env s tag.DefinitionList = puts-join env s.due s.fresh s.any_line
+puts-enter sheet env s tag.MetadataBlock = puts-metadata sheet env s.due s.fresh s.any_line
 puts-enter sheet env s t = refl
 
-puts-leave : (sheet : Sheet) (s : Spacing) (t : Tag) → puts (leave sheet s t).marks ≡ pieces_behind sheet t
-puts-leave sheet s (tag.Heading level id classes attrs) = puts-put-then s (styled_span (attribute_suffix id classes attrs) sheet.heading_meta)
-puts-leave sheet s (tag.Link dest) = puts-put_all s (link_spans sheet dest)
-puts-leave sheet s t = refl
+puts-leave : (sheet : Sheet) (env : Environment) (s : Spacing) (t : Tag) → puts (leave sheet env s t).marks ≡ pieces_behind sheet t
+puts-leave sheet env s (tag.Heading level id classes attrs) = puts-put-then s (styled_span (attribute_suffix id classes attrs) sheet.heading_meta)
+puts-leave sheet env s (tag.Link dest) = puts-put_all s (link_spans sheet dest)
+puts-leave sheet env s t = refl
 
 puts-indent : (env : Environment) (spacing : Spacing) → puts (indent env spacing).marks ≡ []
 puts-indent env spacing = by_test (in_item env)
@@ -255,15 +294,16 @@ puts-branch : (look : Look) (env : Environment) (s : Spacing) (t : Tag) (nodes :
     ((spacing : Spacing) → puts (inside spacing).marks ≡ within) →
     puts (branch look env s t nodes inside).marks ≡ branch_pieces look env t nodes within
 puts-branch look env s (tag.CodeBlock kind) nodes inside within h = puts-code_block look env s kind (texts nodes)
+puts-branch look env s tag.HtmlBlock nodes inside within h = puts-html_block look.sheet env s.due s.fresh s.any_line (texts nodes)
 puts-branch look env s (tag.Table alignments) nodes inside within h = puts-table look env s (table_of look.sheet env alignments nodes)
 puts-branch look env s t nodes inside within h =
     let a = enter look.sheet env s t in
     let b = inside a.after in
-    let c = leave look.sheet b.after t in
+    let c = leave look.sheet env b.after t in
     let first = pieces_before look.sheet env t in
     let last = pieces_behind look.sheet t in
     puts2 a.marks (b.marks ++ c.marks) first (within ++ last) (puts-enter look.sheet env s t)
-    (puts2 b.marks c.marks within last (h a.after) (puts-leave look.sheet b.after t))
+    (puts2 b.marks c.marks within last (h a.after) (puts-leave look.sheet env b.after t))
 
 -- the spans that a layout puts are the pieces of its tree, good or not
 pub puts-layout : (look : Look) (t : Nodes) (env : Environment) (spacing : Spacing) → puts (layout look env spacing t).marks ≡ pieces look env t

@@ -4,6 +4,7 @@ use Rattle.term_text.specs.Text.{LineView}
 use Rattle.md_tree.specs.declared.event.Event.{Event}
 use Rattle.md_tree.specs.declared.event.Event.TheVariants as event
 use Rattle.md_tree.specs.declared.event.Tag.TheVariants as tag
+use Rattle.md_tree.specs.declared.place.Holds.TheVariants as level
 use Rattle.md_tree.specs.declared.place.Place.{Place}
 use Rattle.md_tree.specs.Tree.{Nodes, Empty, Leaf, Branch, events, events_then, end_of}
 use Rattle.md_tree.specs.Good.{good, good_at, place_inside, place_after, place_after_leaf, document_place}
@@ -16,12 +17,13 @@ use Rattle.md_text.specs.Blocks.{paragraph, enter, leave}
 use Rattle.md_text.specs.Inlines.{task_mark, leaf}
 use Rattle.md_text.specs.Texts.{texts}
 use Rattle.md_text.specs.Code.{code_block}
+use Rattle.md_text.specs.Html.{html_block}
 use Rattle.md_text.specs.Tables.{table, table_of}
 use Rattle.md_text.specs.Layout.{layout, document_lines}
 use Rattle.md_text.specs.State.{Begun, State, environment_behind, run, first_state}
 use Rattle.md_text.proofs.States.{within_lines, lines_state}
 use Rattle.md_text.proofs.GoodNodes.{good-behind_leaf, good-inside, good-behind}
-use Rattle.md_text.proofs.CodeInside.{run-texts}
+use Rattle.md_text.proofs.CodeInside.{element-in-code, element-in-html, run-texts}
 use Rattle.md_text.proofs.TableRuns.{run-table}
 use Rattle.md_text.proofs.Widths.{ahead, no-task, ahead-none}
 use Rattle.md_text.proofs.Draws.{draws-append}
@@ -84,7 +86,7 @@ run-events_then look (Branch tag.Paragraph inside rest) es elements env spacing 
     let env_in = ahead env inside in
     let a = paragraph (within_lines env) spacing in
     let b = layout look (within_lines env_in) a.after inside in
-    let c = leave look.sheet b.after tag.Paragraph in
+    let c = leave look.sheet (within_lines env) b.after tag.Paragraph in
     let d = layout look (within_lines env_in) c.after rest in
     let lines_in = draws (draws lines a.marks) b.marks in
     let begun : Begun = record { tag = tag.Paragraph; environment = within_lines env } in
@@ -98,10 +100,19 @@ run-events_then look (Branch (tag.CodeBlock kind) inside rest) es elements env s
     let block = code_block look (within_lines env) spacing kind (texts inside) in
     let d = layout look (within_lines env) block.after rest in
     let begun : Begun = record { tag = tag.CodeBlock kind; environment = within_lines env } in
-    run-texts look inside (event.End (end_of (tag.CodeBlock kind)) ∷ events_then rest es) (begun ∷ elements)
+    run-texts level.CodeTexts element-in-code look inside (event.End (end_of (tag.CodeBlock kind)) ∷ events_then rest es) (begun ∷ elements)
     env spacing [] lines (good-inside p (tag.CodeBlock kind) inside rest g)
     ∙ run-events_then look rest es elements env block.after (draws lines block.marks) (place_after p (tag.CodeBlock kind)) (good-behind p (tag.CodeBlock kind) inside rest g)
     ∙ behind-later look rest es elements env block.after (draws lines block.marks) (place_after p (tag.CodeBlock kind)) refl (good-behind p (tag.CodeBlock kind) inside rest g)
+    ∙ join2 look es elements (environment_of env rest) d.after lines block.marks d.marks
+run-events_then look (Branch tag.HtmlBlock inside rest) es elements env spacing lines p g =
+    let block = html_block look.sheet (within_lines env) spacing (texts inside) in
+    let d = layout look (within_lines env) block.after rest in
+    let begun : Begun = record { tag = tag.HtmlBlock; environment = within_lines env } in
+    run-texts level.HtmlTexts element-in-html look inside (event.End (end_of tag.HtmlBlock) ∷ events_then rest es) (begun ∷ elements)
+    env spacing [] lines (good-inside p tag.HtmlBlock inside rest g)
+    ∙ run-events_then look rest es elements env block.after (draws lines block.marks) (place_after p tag.HtmlBlock) (good-behind p tag.HtmlBlock inside rest g)
+    ∙ behind-later look rest es elements env block.after (draws lines block.marks) (place_after p tag.HtmlBlock) refl (good-behind p tag.HtmlBlock inside rest g)
     ∙ join2 look es elements (environment_of env rest) d.after lines block.marks d.marks
 run-events_then look (Branch (tag.Table alignments) inside rest) es elements env spacing lines p g =
     let block = table look (within_lines env) spacing (table_of look.sheet (within_lines env) alignments inside) in
@@ -129,7 +140,7 @@ run-events_then look (Branch t inside rest) es elements env spacing lines p g =
     let env_in = environment_inside look.sheet env t Empty in
     let a = enter look.sheet (within_lines env) spacing t in
     let b = layout look (within_lines env_in) a.after inside in
-    let c = leave look.sheet b.after t in
+    let c = leave look.sheet (within_lines env) b.after t in
     let d = layout look (within_lines env) c.after rest in
     let ends = event.End (end_of t) ∷ events_then rest es in
     let begun : Begun = record { tag = t; environment = within_lines env } in

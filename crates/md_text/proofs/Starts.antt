@@ -13,7 +13,7 @@ use Rattle.md_tree.specs.declared.place.Holds.TheVariants as level
 use Rattle.md_tree.specs.declared.place.Numbers.{Numbers}
 use Rattle.md_tree.specs.declared.place.Place.{Place}
 use Rattle.md_tree.specs.Tree.{Nodes, Empty, Leaf, Branch}
-use Rattle.md_tree.specs.Good.{good, good_at, may_stand, may_hold, numbers_from, holds_items, holds_head, holds_rows, holds_cells, holds_inlines, holds_text, holds_soft_break, place_inside, place_after, place_after_leaf, document_place}
+use Rattle.md_tree.specs.Good.{good, good_at, may_stand, may_hold, numbers_from, holds_items, holds_entries, holds_head, holds_rows, holds_cells, holds_inlines, holds_text, holds_soft_break, place_inside, place_after, place_after_leaf, document_place, level_of}
 use Rattle.md_tree.proofs.Nodes.{and_left, and_right, and_false}
 use Rattle.ansi_text.specs.Ansi.{ansi}
 use Rattle.md_picture.specs.Picture.{TableView}
@@ -31,45 +31,47 @@ use Rattle.md_text.specs.Headings.{heading}
 use Rattle.md_text.specs.Texts.{texts}
 use Rattle.md_text.specs.Alerts.{alert_of}
 use Rattle.md_text.specs.Containers.{alert, list}
+use Rattle.md_text.specs.Html.{html_block}
 use Rattle.md_text.specs.Inlines.{text_lines, rule, leaf}
+use Rattle.md_text.specs.Notes.{footnote, metadata}
 use Rattle.md_text.specs.Code.{info, recognised, code_environment, fence, coloured_line, answered_line, code_lines, code_block}
 use Rattle.md_text.specs.Blocks.{is_fresh, paragraph, enter, leave}
 use Rattle.md_text.specs.Tables.{in_item, indent, begin_picture_line, picture_line, table, table_of, table_picture}
 use Rattle.md_text.specs.Layout.{branch, layout, document_layout}
 
--- the levels outside lines, lists and tables: they hold blocks, or the entries of a definition list
+-- the level outside lines, lists and tables: it holds blocks
 abbrev pub outside_lines : Holds → Bool
 outside_lines level.Blocks = true
-outside_lines level.Entries = true
 outside_lines _ = false
 
--- what neither blocks nor entries hold
-no_other : (holds : Holds → Bool) → holds level.Blocks ≡ false → holds level.Entries ≡ false →
-    (h : Holds) → outside_lines h ≡ true → holds h ≡ true → ⊥
-no_other holds b e level.Blocks o i = cc
-no_other holds b e level.Entries o i = cc
-no_other holds b e h o i = cc
+-- what it does not hold
+no_other : (holds : Holds → Bool) → holds level.Blocks ≡ false → (h : Holds) → outside_lines h ≡ true → holds h ≡ true → ⊥
+no_other holds b level.Blocks o i = cc
+no_other holds b h o i = cc
 
 no_inlines : (h : Holds) → outside_lines h ≡ true → holds_inlines h ≡ true → ⊥
-no_inlines = no_other holds_inlines refl refl
+no_inlines = no_other holds_inlines refl
 
 no_text : (h : Holds) → outside_lines h ≡ true → holds_text h ≡ true → ⊥
-no_text = no_other holds_text refl refl
+no_text = no_other holds_text refl
 
 no_soft_break : (h : Holds) → outside_lines h ≡ true → holds_soft_break h ≡ true → ⊥
-no_soft_break = no_other holds_soft_break refl refl
+no_soft_break = no_other holds_soft_break refl
 
 no_items : (h : Holds) → outside_lines h ≡ true → holds_items h ≡ true → ⊥
-no_items = no_other holds_items refl refl
+no_items = no_other holds_items refl
+
+no_entries : (h : Holds) → outside_lines h ≡ true → holds_entries h ≡ true → ⊥
+no_entries = no_other holds_entries refl
 
 no_head : (h : Holds) → outside_lines h ≡ true → holds_head h ≡ true → ⊥
-no_head = no_other holds_head refl refl
+no_head = no_other holds_head refl
 
 no_rows : (h : Holds) → outside_lines h ≡ true → holds_rows h ≡ true → ⊥
-no_rows = no_other holds_rows refl refl
+no_rows = no_other holds_rows refl
 
 no_cells : (h : Holds) → outside_lines h ≡ true → holds_cells h ≡ true → ⊥
-no_cells = no_other holds_cells refl refl
+no_cells = no_other holds_cells refl
 
 -- where a paragraph begins a line
 abbrev pub Ready : Spacing → Type 0
@@ -241,6 +243,38 @@ items-begin look (Leaf e rest) env s numbers g = absurd (no-leaf numbers e (and_
 items-begin look (Branch tag.Item inside rest) env s numbers g = refl
 items-begin look (Branch t inside rest) env s numbers g = cc
 
+-- the places of the entries of a definition list
+abbrev entries_place : Place
+entries_place = level_of level.Entries
+
+no-leaf-entry : (e : Event) → may_hold entries_place e ≡ true → ⊥
+no-leaf-entry (event.Text bytes) g = cc
+no-leaf-entry e g = cc
+
+-- what stands in a definition list begins with a title or a description, which begins a line
+entries-begin : (look : Look) (t : Nodes) (env : Environment) (s : Spacing) → good_at entries_place t ≡ true →
+    begins_line (layout look env s t).marks ≡ true
+entries-begin look Empty env s g = refl
+entries-begin look (Leaf e rest) env s g = absurd (no-leaf-entry e (and_left _ _ g))
+entries-begin look (Branch tag.DefinitionListTitle inside rest) env s g = refl
+entries-begin look (Branch tag.DefinitionListDefinition inside rest) env s g = refl
+entries-begin look (Branch t inside rest) env s g = cc
+
+footnote-opens : (sheet : Sheet) (env : Environment) (due : Bool) (f : Fresh) (any : Bool) (bytes : List ℕ) →
+    opens (footnote sheet env (record { due = due; fresh = f; any_line = any }) bytes).marks ≡ true
+footnote-opens sheet env true f any bytes = refl
+footnote-opens sheet env false f any bytes = refl
+
+metadata-opens : (sheet : Sheet) (env : Environment) (due : Bool) (f : Fresh) (any : Bool) →
+    opens (metadata sheet env (record { due = due; fresh = f; any_line = any })).marks ≡ true
+metadata-opens sheet env true f any = refl
+metadata-opens sheet env false f any = refl
+
+html_block-begins : (sheet : Sheet) (env : Environment) (due : Bool) (f : Fresh) (any : Bool) (bytes : List ℕ) →
+    begins_line (html_block sheet env (record { due = due; fresh = f; any_line = any }) bytes).marks ≡ true
+html_block-begins sheet env true f any bytes = refl
+html_block-begins sheet env false f any bytes = refl
+
 -- a rule begins a line, and a line is due behind it
 rule-begins : (env : Environment) (due : Bool) (f : Fresh) (any : Bool) → Begins (rule env (record { due = due; fresh = f; any_line = any }))
 rule-begins env true f any = record { starts = refl; ready = refl }
@@ -252,6 +286,10 @@ leaf-begins sheet (event.Start t) env s p o m r = cc
 leaf-begins sheet (event.End e) env s p o m r = cc
 leaf-begins sheet (event.Text bytes) env s p o m r = absurd (no_text p.holds o m)
 leaf-begins sheet (event.Code bytes) env s p o m r = absurd (no_inlines p.holds o m)
+leaf-begins sheet (event.InlineHtml bytes) env s p o m r = absurd (no_inlines p.holds o m)
+leaf-begins sheet (event.InlineMath bytes) env s p o m r = absurd (no_inlines p.holds o m)
+leaf-begins sheet (event.DisplayMath bytes) env s p o m r = absurd (no_inlines p.holds o m)
+leaf-begins sheet (event.FootnoteReference label) env s p o m r = absurd (no_inlines p.holds o m)
 leaf-begins sheet event.SoftBreak env s p o m r = absurd (no_soft_break p.holds o m)
 leaf-begins sheet event.HardBreak env s p o m r = absurd (no_inlines p.holds o m)
 leaf-begins sheet (event.TaskListMarker is_done) env s p o m r = absurd (no_inlines p.holds o (and_left _ _ m))
@@ -267,13 +305,14 @@ element look env s t inside = branch look env s t inside (within look env t insi
 
 -- an element that begins with an Open, and behind which a line is due
 opening-begins : (look : Look) (env : Environment) (s : Spacing) (t : Tag) (inside : Nodes) → opens (enter look.sheet env s t).marks ≡ true →
-    ((spacing : Spacing) → (leave look.sheet spacing t).after.due ≡ true) → Begins (element look env s t inside)
+    ((spacing : Spacing) → (leave look.sheet env spacing t).after.due ≡ true) → Begins (element look env s t inside)
 opening-begins look env s (tag.CodeBlock kind) inside h k = cc
+opening-begins look env s tag.HtmlBlock inside h k = cc
 opening-begins look env s (tag.Table alignments) inside h k = cc
 opening-begins look env s t inside h k =
     let a = enter look.sheet env s t in
     let b = within look env t inside a.after in
-    let c = leave look.sheet b.after t in
+    let c = leave look.sheet env b.after t in
     record {
       starts = opens-begins (a.marks ++ (b.marks ++ c.marks)) (opens-append a.marks (b.marks ++ c.marks) h);
       ready = due-ready c.after (k b.after);
@@ -304,7 +343,7 @@ element-begins look (tag.BlockQuote None) inside env s p o m g r begins =
 element-begins look (tag.CodeBlock kind) inside env s p o m g r begins =
     record { starts = code_block-begins look env s.due s.fresh s.any_line kind (texts inside); ready = and_false _ }
 element-begins look tag.HtmlBlock inside env s p o m g r begins =
-    opening-begins look env s tag.HtmlBlock inside (paragraph-opens env s.due s.fresh s.any_line r) (λ _. refl)
+    record { starts = html_block-begins look.sheet env s.due s.fresh s.any_line (texts inside); ready = and_false _ }
 element-begins look (tag.List start) inside env s p o m g r begins =
     let a = list env s in
     record {
@@ -314,22 +353,23 @@ element-begins look (tag.List start) inside env s p o m g r begins =
     }
 element-begins look tag.Item inside env s p o m g r begins = absurd (no_items p.holds o (and_left _ _ m))
 element-begins look (tag.FootnoteDefinition label) inside env s p o m g r begins =
-    let first = begins s refl r in
-    record { starts = parts-begin [] (layout look env s inside).marks refl first.starts; ready = first.ready }
+    opening-begins look env s (tag.FootnoteDefinition label) inside (footnote-opens look.sheet env s.due s.fresh s.any_line label) (λ _. refl)
 element-begins look tag.DefinitionList inside env s p o m g r begins =
-    let first = begins s refl r in
-    record { starts = parts-begin [] (layout look env s inside).marks refl first.starts; ready = first.ready }
-element-begins look tag.DefinitionListTitle inside env s p o m g r begins =
-    opening-begins look env s tag.DefinitionListTitle inside (paragraph-opens env s.due s.fresh s.any_line r) (λ _. refl)
-element-begins look tag.DefinitionListDefinition inside env s p o m g r begins =
-    opening-begins look env s tag.DefinitionListDefinition inside (paragraph-opens env s.due s.fresh s.any_line r) (λ _. refl)
+    let a = join_laid env s in
+    record {
+      starts = parts-begin a.marks (within look env tag.DefinitionList inside a.after).marks (join-begins env s.due s.fresh s.any_line)
+          (entries-begin look inside env a.after g);
+      ready = and_false _;
+    }
+element-begins look tag.DefinitionListTitle inside env s p o m g r begins = absurd (no_entries p.holds o m)
+element-begins look tag.DefinitionListDefinition inside env s p o m g r begins = absurd (no_entries p.holds o m)
 element-begins look (tag.Table alignments) inside env s p o m g r begins =
     table-begins look env s.due s.fresh s.any_line (table_of look.sheet env alignments inside) r
 element-begins look tag.TableHead inside env s p o m g r begins = absurd (no_head p.holds o m)
 element-begins look tag.TableRow inside env s p o m g r begins = absurd (no_rows p.holds o m)
 element-begins look tag.TableCell inside env s p o m g r begins = absurd (no_cells p.holds o m)
 element-begins look tag.MetadataBlock inside env s p o m g r begins =
-    opening-begins look env s tag.MetadataBlock inside (paragraph-opens env s.due s.fresh s.any_line r) (λ _. refl)
+    opening-begins look env s tag.MetadataBlock inside (metadata-opens look.sheet env s.due s.fresh s.any_line) (λ _. refl)
 element-begins look (tag.Link dest) inside env s p o m g r begins = absurd (no_inlines p.holds o (and_left _ _ m))
 element-begins look t inside env s p o m g r begins = absurd (no_inlines p.holds o m)
 

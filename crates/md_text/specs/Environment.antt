@@ -27,6 +27,7 @@ first_environment =
       number = None;
       item_width = 0;
       within = Lines;
+      in_metadata = false;
     }
 
 -- before the first block no line is due, and none was opened
@@ -58,8 +59,9 @@ abbrev pub with_task : ℕ → Nodes → ℕ
 with_task width inside = if begins_with_task inside then width + 4 else width
 
 -- inside an element with these nodes: quotes add a mark and set the line style, lists are one deeper and begin at their number,
--- items have a width, styled inlines and links patch the inline style, leaves in a block of code are its content and
--- those in a table its cells, and others leave all as it is
+-- items have a width, footnotes and metadata set the line style, styled inlines, links, titles and descriptions patch the
+-- inline style, leaves in a block of code or HTML are its content and those in a table its cells, in metadata a soft break
+-- begins a line, and others leave all as it is
 abbrev pub environment_inside : Sheet → Environment → Tag → Nodes → Environment
 environment_inside sheet env (tag.BlockQuote kind) inside = record env { quotes = env.quotes + 1; line_style = quote_style sheet kind }
 environment_inside sheet env (tag.List start) inside = record env { depth = env.depth + 1; number = start }
@@ -71,6 +73,11 @@ environment_inside sheet env tag.Superscript inside = styled env (italic (dim no
 environment_inside sheet env tag.Subscript inside = styled env (italic (dim no_style))
 environment_inside sheet env (tag.Link dest) inside = styled env sheet.link
 environment_inside sheet env (tag.CodeBlock kind) inside = record env { within = Code }
+environment_inside sheet env tag.HtmlBlock inside = record env { within = Code }
+environment_inside sheet env (tag.FootnoteDefinition label) inside = record env { line_style = sheet.footnote_def }
+environment_inside sheet env tag.DefinitionListTitle inside = styled env sheet.definition_term
+environment_inside sheet env tag.DefinitionListDefinition inside = styled env sheet.definition_description
+environment_inside sheet env tag.MetadataBlock inside = record env { line_style = sheet.metadata_block; in_metadata = true }
 environment_inside sheet env (tag.Table alignments) inside = record env { within = Cell }
 environment_inside sheet env _ inside = env
 

@@ -1,7 +1,9 @@
 -- What inlines lay out.
-use Rattle.std.specs.Prelude.{ℕ, if◌then◌else◌, Bool, true, false, List, [], ◌∷◌, codes}
+use Rattle.std.specs.Prelude.{ℕ, if◌then◌else◌, Bool, true, false, List, [], ◌∷◌, ◌++◌, codes}
 use Rattle.std.specs.Str.Lines.{lines}
 use Rattle.term_text.specs.Text.{SpanView}
+use Rattle.term_text.specs.declared.style.Style.{Style}
+use Rattle.term_text.specs.Style.{patch}
 use Rattle.md_tree.specs.declared.event.Event.{Event}
 use Rattle.md_tree.specs.declared.event.Event.TheVariants as event
 use Rattle.md_table.specs.Sheet.{Sheet}
@@ -28,9 +30,9 @@ text_lines is_first env spacing (line ∷ others) =
 abbrev pub text : Environment → Spacing → List ℕ → Laid
 text env spacing bytes = text_lines true env spacing (lines bytes)
 
--- Soft break: Put one blank, plain
-abbrev pub soft_break : Spacing → Laid
-soft_break spacing = put_laid spacing (plain_span (codes " "))
+-- Soft break: Put one blank, plain; in metadata Open
+abbrev pub soft_break : Environment → Spacing → Laid
+soft_break env spacing = if env.in_metadata then open_laid env spacing else put_laid spacing (plain_span (codes " "))
 
 -- Hard break: Open
 abbrev pub hard_break : Environment → Spacing → Laid
@@ -41,10 +43,41 @@ abbrev pub task_mark : Spacing → Bool → Laid
 task_mark spacing is_done =
     record { marks = Put (plain_span (if is_done then codes "[x] " else codes "[ ] ")) ∷ []; after = spacing }
 
--- Code: Join, and Put in the style of code alone
+-- Join, and Put in a style
+abbrev pub joined_text : Environment → Spacing → List ℕ → Style → Laid
+joined_text env spacing bytes style = then_laid (join_laid env spacing) (λ joined. put_laid joined (styled_span bytes style))
+
+-- Code: in the style of code alone
 abbrev pub code : Sheet → Environment → Spacing → List ℕ → Laid
-code sheet env spacing bytes =
-    then_laid (join_laid env spacing) (λ joined. put_laid joined (styled_span bytes sheet.code))
+code sheet env spacing bytes = joined_text env spacing bytes sheet.code
+
+-- HTML, inline math and footnote references: as they are written, in their styles over the inline style
+abbrev pub html : Sheet → Environment → Spacing → List ℕ → Laid
+html sheet env spacing bytes = joined_text env spacing bytes (patch env.inline_style sheet.html)
+
+abbrev pub inline_math : List ℕ → List ℕ
+inline_math bytes = codes "$" ++ (bytes ++ codes "$")
+
+abbrev pub math : Sheet → Environment → Spacing → List ℕ → Laid
+math sheet env spacing bytes = joined_text env spacing (inline_math bytes) (patch env.inline_style sheet.math_inline)
+
+abbrev pub reference : List ℕ → List ℕ
+reference label = codes "[" ++ (label ++ codes "]")
+
+abbrev pub footnote_reference : Sheet → Environment → Spacing → List ℕ → Laid
+footnote_reference sheet env spacing label = joined_text env spacing (reference label) (patch env.inline_style sheet.footnote_ref)
+
+-- Display math: its lines as those of a text, in its own style; a line is due behind it
+abbrev pub display_math : List ℕ → List ℕ
+display_math bytes = codes "$$" ++ (bytes ++ codes "$$")
+
+abbrev pub math_environment : Sheet → Environment → Environment
+math_environment sheet env = record env { inline_style = sheet.math_display }
+
+abbrev pub display : Sheet → Environment → Spacing → List ℕ → Laid
+display sheet env spacing bytes =
+    then_laid (text_lines true (math_environment sheet env) spacing (lines (display_math bytes))) (λ behind.
+    nothing_laid (with_due true behind))
 
 -- behind a link's inlines: the destination in the style of links alone, in plain parentheses behind a blank
 abbrev pub link_spans : Sheet → List ℕ → List SpanView
@@ -60,11 +93,15 @@ rule env spacing =
     then_laid (open_laid env gapped) (λ opened.
     then_laid (put_laid opened (plain_span (codes "---"))) (λ ruled. nothing_laid (with_due true ruled))))
 
--- a leaf; those without a row as yet are laid out as nothing
+-- a leaf; the lines of an HTML block are laid out with it
 abbrev pub leaf : Sheet → Environment → Spacing → Event → Laid
 leaf sheet env spacing (event.Text bytes) = text env spacing bytes
 leaf sheet env spacing (event.Code bytes) = code sheet env spacing bytes
-leaf sheet env spacing event.SoftBreak = soft_break spacing
+leaf sheet env spacing (event.InlineHtml bytes) = html sheet env spacing bytes
+leaf sheet env spacing (event.InlineMath bytes) = math sheet env spacing bytes
+leaf sheet env spacing (event.DisplayMath bytes) = display sheet env spacing bytes
+leaf sheet env spacing (event.FootnoteReference label) = footnote_reference sheet env spacing label
+leaf sheet env spacing event.SoftBreak = soft_break env spacing
 leaf sheet env spacing event.HardBreak = hard_break env spacing
 leaf sheet env spacing event.Rule = rule env spacing
 leaf sheet env spacing (event.TaskListMarker is_done) = task_mark spacing is_done

@@ -14,16 +14,18 @@ use Rattle.md_text.specs.Texts.{texts}
 use Rattle.md_text.specs.Blocks.{enter, leave}
 use Rattle.md_text.specs.Inlines.{leaf}
 use Rattle.md_text.specs.Code.{code_block}
+use Rattle.md_text.specs.Html.{html_block}
 use Rattle.md_text.specs.Tables.{table, table_of}
 
--- An element with these nodes: a block of code and a table are laid out as a whole, and of others, what stands before, in and
+-- An element with these nodes: a block of code or HTML and a table are laid out as a whole, and of others, what stands before, in and
 -- behind them.
 abbrev pub branch : Look → Environment → Spacing → Tag → Nodes → (Spacing → Laid) → Laid
 branch look env spacing (tag.CodeBlock kind) nodes inside = code_block look env spacing kind (texts nodes)
+branch look env spacing tag.HtmlBlock nodes inside = html_block look.sheet env spacing (texts nodes)
 branch look env spacing (tag.Table alignments) nodes inside = table look env spacing (table_of look.sheet env alignments nodes)
 branch look env spacing tag nodes inside =
     then_laid (enter look.sheet env spacing tag) (λ entered.
-    then_laid (inside entered) (λ behind. leave look.sheet behind tag))
+    then_laid (inside entered) (λ behind. leave look.sheet env behind tag))
 
 -- the environment is only handed down: what follows an element has the environment from before it, with a list's next number
 abbrev pub layout : Look → Environment → Spacing → Nodes → Laid

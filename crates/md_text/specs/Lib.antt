@@ -9,8 +9,10 @@ pub mod Containers
 pub mod Headings
 pub mod Words
 pub mod Texts
+pub mod Notes
 pub mod Blocks
 pub mod Inlines
+pub mod Html
 pub mod Code
 pub mod Tables
 pub mod Layout

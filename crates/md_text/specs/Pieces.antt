@@ -1,6 +1,7 @@
 -- The spans of a tree, without lines and spacing.
 use Rattle.std.specs.Prelude.{ℕ, Option, None, Some, ◌==◌, if◌then◌else◌, List, [], ◌∷◌, ◌++◌, length, codes}
 use Rattle.std.specs.Str.Lines.{lines}
+use Rattle.term_text.specs.Style.{patch}
 use Rattle.term_text.specs.Text.{SpanView, LineView}
 use Rattle.md_tree.specs.declared.event.BlockQuoteKind.{BlockQuoteKind}
 use Rattle.md_tree.specs.declared.event.CodeBlockKind.{CodeBlockKind}
@@ -19,7 +20,9 @@ use Rattle.md_text.specs.Spans.{piece, each_pieces, pieces_of}
 use Rattle.md_text.specs.Look.{Look}
 use Rattle.md_text.specs.Environment.{first_environment, environment_inside, environment_after}
 use Rattle.md_text.specs.Headings.{level_number, with_blank, attribute_suffix}
-use Rattle.md_text.specs.Inlines.{link_spans}
+use Rattle.md_text.specs.Html.{html_environment}
+use Rattle.md_text.specs.Inlines.{display_math, inline_math, link_spans, math_environment, reference}
+use Rattle.md_text.specs.Notes.{label}
 use Rattle.md_text.specs.Code.{info, recognised}
 use Rattle.md_text.specs.Texts.{texts}
 use Rattle.md_text.specs.Alerts.{alert_of}
@@ -36,12 +39,16 @@ puts (_ ∷ marks) = puts marks
 abbrev pub line_pieces : Environment → List (List ℕ) → List SpanView
 line_pieces env all = each_pieces (λ line. piece (styled_span line env.inline_style)) all
 
--- a text's pieces are its lines, code is one in its own style, a soft break's is a blank, a rule's is three dashes, and a task
--- mark's is a box
+-- a text's pieces are its lines, and so are those of display math; code, HTML, inline math and a footnote reference are one, a
+-- soft break's is a blank, but in metadata it has none, a rule's is three dashes, and a task mark's is a box
 abbrev pub leaf_pieces : Sheet → Environment → Event → List SpanView
 leaf_pieces sheet env (event.Text bytes) = line_pieces env (lines bytes)
 leaf_pieces sheet env (event.Code bytes) = piece (styled_span bytes sheet.code)
-leaf_pieces sheet env event.SoftBreak = plain_span (codes " ") ∷ []
+leaf_pieces sheet env (event.InlineHtml bytes) = piece (styled_span bytes (patch env.inline_style sheet.html))
+leaf_pieces sheet env (event.InlineMath bytes) = piece (styled_span (inline_math bytes) (patch env.inline_style sheet.math_inline))
+leaf_pieces sheet env (event.DisplayMath bytes) = line_pieces (math_environment sheet env) (lines (display_math bytes))
+leaf_pieces sheet env (event.FootnoteReference label) = piece (styled_span (reference label) (patch env.inline_style sheet.footnote_ref))
+leaf_pieces sheet env event.SoftBreak = if env.in_metadata then [] else plain_span (codes " ") ∷ []
 leaf_pieces sheet env event.Rule = plain_span (codes "---") ∷ []
 leaf_pieces sheet env (event.TaskListMarker is_done) = plain_span (if is_done then codes "[x] " else codes "[ ] ") ∷ []
 leaf_pieces sheet env _ = []
@@ -71,28 +78,34 @@ quote_pieces sheet None = []
 quote_pieces sheet (Some kind) =
     let alert = alert_of kind in piece (styled_span (alert_title sheet alert) (bold (sheet.alert alert)))
 
--- before what is inside: a heading's mark, an alert's icon and label, and an item's marker
+-- before what is inside: a heading's mark, an alert's icon and label, an item's marker, a footnote's label, a description's
+-- colon, and dashes before metadata
 abbrev pub pieces_before : Sheet → Environment → Tag → List SpanView
 pieces_before sheet env (tag.Heading level id classes attrs) =
     piece (plain_span (with_blank (sheet.heading_marker (level_number level))))
 pieces_before sheet env (tag.BlockQuote kind) = quote_pieces sheet kind
 pieces_before sheet env tag.Item = piece (marker sheet env.depth env.number)
+pieces_before sheet env (tag.FootnoteDefinition bytes) = piece (styled_span (label bytes) sheet.footnote_def)
+pieces_before sheet env tag.DefinitionListDefinition = piece (styled_span (codes ": ") sheet.definition_description)
+pieces_before sheet env tag.MetadataBlock = plain_span (codes "---") ∷ []
 pieces_before sheet env _ = []
 
 -- the pieces of a table are the spans of its picture
 abbrev pub table_pieces : Look → Environment → TableView → List SpanView
 table_pieces look env view = each_pieces (λ (line : LineView). pieces_of line.spans) (table_picture look env view)
 
--- behind what is inside: a heading's attributes, and a link's destination
+-- behind what is inside: a heading's attributes, a link's destination, and dashes behind metadata
 abbrev pub pieces_behind : Sheet → Tag → List SpanView
 pieces_behind sheet (tag.Heading level id classes attrs) = piece (styled_span (attribute_suffix id classes attrs) sheet.heading_meta)
+pieces_behind sheet tag.MetadataBlock = plain_span (codes "---") ∷ []
 pieces_behind sheet (tag.Link dest) = pieces_of (link_spans sheet dest)
 pieces_behind sheet _ = []
 
--- the pieces of an element with these nodes, those of the nodes being given: of a block of code and of a table as a whole, and
--- of others, what stands before, in and behind them
+-- the pieces of an element with these nodes, those of the nodes being given: of a block of code or HTML and of a table as a
+-- whole, and of others, what stands before, in and behind them
 abbrev pub branch_pieces : Look → Environment → Tag → Nodes → List SpanView → List SpanView
 branch_pieces look env (tag.CodeBlock kind) nodes inside = code_pieces look env kind (texts nodes)
+branch_pieces look env tag.HtmlBlock nodes inside = line_pieces (html_environment look.sheet env) (lines (texts nodes))
 branch_pieces look env (tag.Table alignments) nodes inside = table_pieces look env (table_of look.sheet env alignments nodes)
 branch_pieces look env tag nodes inside = pieces_before look.sheet env tag ++ (inside ++ pieces_behind look.sheet tag)
 

@@ -22,6 +22,7 @@ use Rattle.md_text.specs.Texts.{leaf_text}
 use Rattle.md_text.specs.Blocks.{enter, leave}
 use Rattle.md_text.specs.Inlines.{link_spans, leaf}
 use Rattle.md_text.specs.Code.{code_block}
+use Rattle.md_text.specs.Html.{html_block}
 use Rattle.md_text.specs.Tables.{flat_leaf, table}
 
 -- ---- tables while they are built
@@ -116,11 +117,12 @@ restored_from outer t inner = environment_after outer t
 abbrev pub restored : Begun → Environment → Environment
 restored element inner = restored_from element.environment element.tag inner
 
--- what an element lays out at its end: blocks of code and tables as a whole
+-- what an element lays out at its end: blocks of code and HTML and tables as a whole
 abbrev pub left : Look → State → Tag → Laid
 left look state (tag.CodeBlock kind) = code_block look state.environment state.spacing kind state.content
+left look state tag.HtmlBlock = html_block look.sheet state.environment state.spacing state.content
 left look state (tag.Table alignments) = table look state.environment state.spacing state.builder.table
-left look state tag = leave look.sheet state.spacing tag
+left look state tag = leave look.sheet state.environment state.spacing tag
 
 -- an element ends in a table, or elsewhere
 abbrev pub ended_within : Within → Look → State → Tag → State

@@ -1,7 +1,9 @@
 -- What tables lay out.
 use Rattle.std.specs.Prelude.{ℕ, ◌+◌, ◌-◌, ◌==◌, if◌then◌else◌, Bool, true, false, not, ◌&&◌, Option, None, Some, List, [], ◌∷◌, ◌++◌, codes}
 use Rattle.term_text.specs.declared.alignment.Alignment.{Alignment}
-use Rattle.term_text.specs.Style.{no_style}
+use Rattle.std.specs.Str.Lines.{lines}
+use Rattle.term_text.specs.declared.style.Style.{Style}
+use Rattle.term_text.specs.Style.{no_style, patch}
 use Rattle.term_text.specs.Text.{SpanView, LineView}
 use Rattle.md_tree.specs.declared.event.Event.{Event}
 use Rattle.md_tree.specs.declared.event.Event.TheVariants as event
@@ -18,16 +20,24 @@ use Rattle.md_text.specs.declared.environment.Fresh.TheVariants as fresh
 use Rattle.md_text.specs.Marks.{Pad, plain_span, styled_span}
 use Rattle.md_text.specs.Laid.{Laid, nothing_laid, then_laid, open_laid, join_laid, put_all, each_laid, with_due}
 use Rattle.md_text.specs.Look.{Look}
-use Rattle.md_text.specs.Spans.{piece, pieces_of}
+use Rattle.md_text.specs.Spans.{piece, each_pieces, pieces_of}
 use Rattle.md_text.specs.Environment.{environment_inside}
-use Rattle.md_text.specs.Inlines.{link_spans}
+use Rattle.md_text.specs.Inlines.{display_math, inline_math, link_spans, reference}
 
 -- ---- cells
+
+-- each line is a piece
+abbrev pub flat_lines : Style → List (List ℕ) → List SpanView
+flat_lines style all = each_pieces (λ line. piece (styled_span line style)) all
 
 -- A leaf in a cell: a text is one piece, whatever line ends it has, code is one in its own style, and a break is a blank.
 abbrev pub flat_leaf : Sheet → Environment → Event → List SpanView
 flat_leaf sheet env (event.Text bytes) = piece (styled_span bytes env.inline_style)
 flat_leaf sheet env (event.Code bytes) = piece (styled_span bytes sheet.code)
+flat_leaf sheet env (event.InlineHtml bytes) = piece (styled_span bytes (patch env.inline_style sheet.html))
+flat_leaf sheet env (event.InlineMath bytes) = piece (styled_span (inline_math bytes) (patch env.inline_style sheet.math_inline))
+flat_leaf sheet env (event.DisplayMath bytes) = flat_lines sheet.math_display (lines (display_math bytes))
+flat_leaf sheet env (event.FootnoteReference label) = piece (styled_span (reference label) (patch env.inline_style sheet.footnote_ref))
 flat_leaf sheet env event.SoftBreak = plain_span (codes " ") ∷ []
 flat_leaf sheet env event.HardBreak = plain_span (codes " ") ∷ []
 flat_leaf sheet env _ = []

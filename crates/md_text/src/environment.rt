@@ -16,7 +16,7 @@ use term_text::Style;
 pub enum Within {
     /// Lines that they add to.
     Lines,
-    /// A block of code, whose content they are.
+    /// A block of code or HTML, whose content they are.
     Code,
     /// A table, to whose open cell they go.
     Cell,
@@ -37,6 +37,8 @@ pub struct Environment {
     /// The number of columns of the innermost item's marker and task mark; 0 outside items.
     pub item_width: usize,
     pub within: Within,
+    /// Whether a soft break begins a line, as it does in metadata.
+    pub in_metadata: bool,
 }
 
 /// Whether an item's marker or a prefix is all that stands on the last line.
@@ -70,6 +72,7 @@ impl Environment {
             number: None,
             item_width: 0,
             within: Within::Lines,
+            in_metadata: false,
         }
     }
 
@@ -102,7 +105,18 @@ impl Environment {
             Tag::Strikethrough => self.styled(Style::new().crossed_out()),
             Tag::Superscript | Tag::Subscript => self.styled(Style::new().dim().italic()),
             Tag::Link { .. } => self.styled(sheet.link()),
-            Tag::CodeBlock(_) => Environment {
+            Tag::FootnoteDefinition(_) => Environment {
+                line_style: sheet.footnote_def(),
+                ..self
+            },
+            Tag::DefinitionListTitle => self.styled(sheet.definition_term()),
+            Tag::DefinitionListDefinition => self.styled(sheet.definition_description()),
+            Tag::MetadataBlock => Environment {
+                line_style: sheet.metadata_block(),
+                in_metadata: true,
+                ..self
+            },
+            Tag::CodeBlock(_) | Tag::HtmlBlock => Environment {
                 within: Within::Code,
                 ..self
             },

@@ -15,7 +15,9 @@ mod blocks;
 mod code;
 mod containers;
 mod headings;
+mod html;
 mod inlines;
+mod notes;
 mod tables;
 mod walk;
 

@@ -24,11 +24,12 @@ impl<'e, 'a> Machine<'e, 'a> {
             Tag::BlockQuote(kind) => self.quote(sheet, *kind),
             Tag::List(_) => self.list(),
             Tag::Item => self.item(sheet),
-            Tag::Paragraph
-            | Tag::HtmlBlock
-            | Tag::DefinitionListTitle
-            | Tag::DefinitionListDefinition
-            | Tag::MetadataBlock => self.paragraph(),
+            Tag::Paragraph => self.paragraph(),
+            Tag::FootnoteDefinition(label) => self.footnote(sheet, label),
+            Tag::DefinitionList => self.join(),
+            Tag::DefinitionListTitle => self.open(),
+            Tag::DefinitionListDefinition => self.description(sheet),
+            Tag::MetadataBlock => self.metadata(sheet),
             _ => Ok(()),
         }
     }
@@ -47,13 +48,13 @@ impl<'e, 'a> Machine<'e, 'a> {
         Ok(())
     }
 
-    /// What an element lays out behind its inside; blocks of code and tables are laid out elsewhere.
+    /// What an element lays out behind its inside; blocks of code and HTML and tables are laid out elsewhere.
     pub(super) fn leave<S: StyleSheet>(
         &mut self,
         sheet: &S,
         tag: &Tag<'a>,
     ) -> Result<(), AllocError>
-        ensures { OnOk result (self.new ≡ laid self.old (leave (S.sheet sheet.now) self.old.spacing tag.now)) }
+        ensures { OnOk result (self.new ≡ laid self.old (leave (S.sheet sheet.now) self.old.environment self.old.spacing tag.now)) }
     {
         match tag {
             Tag::Heading {
@@ -63,14 +64,17 @@ impl<'e, 'a> Machine<'e, 'a> {
                 ..
             } => self.heading_end(sheet, id, classes, attrs),
             Tag::Link { dest_url } => self.link_end(sheet, dest_url),
+            Tag::MetadataBlock => self.metadata_end(sheet),
             Tag::Paragraph
             | Tag::BlockQuote(_)
-            | Tag::HtmlBlock
             | Tag::List(_)
-            | Tag::DefinitionListTitle
-            | Tag::DefinitionListDefinition
-            | Tag::MetadataBlock => {
+            | Tag::FootnoteDefinition(_)
+            | Tag::DefinitionList => {
                 self.spacing.due = true;
+                Ok(())
+            }
+            Tag::DefinitionListTitle | Tag::DefinitionListDefinition => {
+                self.spacing.due = false;
                 Ok(())
             }
             _ => Ok(()),

@@ -1,17 +1,17 @@
 // What inlines lay out.
-ghost use Rattle.std.specs.Prelude.{◌≡◌, OnOk};
-ghost use Rattle.md_text.specs.Inlines.{begin_line, text_line, text, code, soft_break, rule, task_mark, link_end, text_lines, leaf};
+ghost use Rattle.std.specs.Prelude.{◌≡◌, ◌++◌, IfOk, OnOk, string_bytes};
+ghost use Rattle.md_text.specs.Inlines.{begin_line, text_line, text, code, display, footnote_reference, html, joined_text, math, soft_break, rule, task_mark, link_end, text_lines, leaf};
 ghost use Rattle.md_text.specs.State.{laid};
 ghost use Rattle.std.specs.Str.Lines.{lines};
 
 use super::Machine;
 use md_events::Event;
 use md_table::StyleSheet;
-use std::alloc::AllocError;
-use term_text::{CowStr, Span};
+use std::alloc::{AllocError, Global};
+use term_text::{CowStr, Span, Style};
 
 impl<'e, 'a> Machine<'e, 'a> {
-    /// What a leaf lays out; those without a row as yet are laid out as nothing.
+    /// What a leaf lays out; the lines of an HTML block are laid out with it.
     pub(super) fn leaf<S: StyleSheet>(
         &mut self,
         sheet: &S,
@@ -23,6 +23,10 @@ impl<'e, 'a> Machine<'e, 'a> {
         match event {
             Event::Text(content) => self.text(content),
             Event::Code(content) => self.code(sheet, content),
+            Event::InlineHtml(content) => self.html(sheet, content),
+            Event::InlineMath(content) => self.math(sheet, content),
+            Event::DisplayMath(content) => self.display(sheet, content),
+            Event::FootnoteReference(label) => self.footnote_reference(sheet, label),
             Event::SoftBreak => self.soft_break(),
             Event::HardBreak => self.open(),
             Event::Rule => self.rule(),
@@ -82,14 +86,70 @@ impl<'e, 'a> Machine<'e, 'a> {
         ensures { OnOk result (self.new
             ≡ laid self.old (code (S.sheet sheet.now) self.old.environment self.old.spacing content.now)) }
     {
-        self.join()?;
         let text = content.try_clone(self.alloc)?;
-        self.put(Span::styled(text, sheet.code()))
+        self.joined_text(text, sheet.code())
     }
 
-    fn soft_break(&mut self) -> Result<(), AllocError>
-        ensures { OnOk result (self.new ≡ laid self.old (soft_break self.old.spacing)) }
+    /// A text in a style; it begins a line if one is due.
+    fn joined_text(&mut self, text: CowStr<'a>, style: Style) -> Result<(), AllocError>
+        ensures { OnOk result (self.new
+            ≡ laid self.old (joined_text self.old.environment self.old.spacing text.entry style)) }
     {
+        self.join()?;
+        self.put(Span::styled(text, style))
+    }
+
+    fn html<S: StyleSheet>(&mut self, sheet: &S, content: &CowStr<'a>) -> Result<(), AllocError>
+        ensures { OnOk result (self.new
+            ≡ laid self.old (html (S.sheet sheet.now) self.old.environment self.old.spacing content.now)) }
+    {
+        let text = content.try_clone(self.alloc)?;
+        self.joined_text(text, self.environment.inline_style.patch(sheet.html()))
+    }
+
+    fn math<S: StyleSheet>(&mut self, sheet: &S, content: &CowStr<'a>) -> Result<(), AllocError>
+        ensures { OnOk result (self.new
+            ≡ laid self.old (math (S.sheet sheet.now) self.old.environment self.old.spacing content.now)) }
+    {
+        let text = between(self.alloc, "$", content.as_str(), "$")?;
+        let style = self.environment.inline_style.patch(sheet.math_inline());
+        self.joined_text(CowStr::owned(text), style)
+    }
+
+    fn footnote_reference<S: StyleSheet>(
+        &mut self,
+        sheet: &S,
+        label: &CowStr<'a>,
+    ) -> Result<(), AllocError>
+        ensures { OnOk result (self.new
+            ≡ laid self.old (footnote_reference (S.sheet sheet.now) self.old.environment self.old.spacing label.now)) }
+    {
+        let text = between(self.alloc, "[", label.as_str(), "]")?;
+        let style = self.environment.inline_style.patch(sheet.footnote_ref());
+        self.joined_text(CowStr::owned(text), style)
+    }
+
+    /// The lines of display math; a line is due behind them.
+    fn display<S: StyleSheet>(&mut self, sheet: &S, content: &CowStr<'a>) -> Result<(), AllocError>
+        ensures { OnOk result (self.new
+            ≡ laid self.old (display (S.sheet sheet.now) self.old.environment self.old.spacing content.now)) }
+    {
+        let text = between(self.alloc, "$$", content.as_str(), "$$")?;
+        let outer = self.environment;
+        self.environment.inline_style = sheet.math_display();
+        self.copied_lines(true, text.as_str())?;
+        self.environment = outer;
+        self.spacing.due = true;
+        Ok(())
+    }
+
+    /// A blank, or in metadata a new line.
+    fn soft_break(&mut self) -> Result<(), AllocError>
+        ensures { OnOk result (self.new ≡ laid self.old (soft_break self.old.environment self.old.spacing)) }
+    {
+        if self.environment.in_metadata {
+            return self.open();
+        }
         self.put(Span::raw(CowStr::borrowed(" ")))
     }
 
@@ -128,4 +188,19 @@ impl<'e, 'a> Machine<'e, 'a> {
         self.put(Span::styled(destination, sheet.link()))?;
         self.put(Span::raw(CowStr::borrowed(")")))
     }
+}
+
+/// A text between two others.
+pub(super) fn between(
+    alloc: Global,
+    before: &str,
+    content: &str,
+    behind: &str,
+) -> Result<String, AllocError>
+    ensures { IfOk result (λ text. string_bytes text ≡ before.now ++ (content.now ++ behind.now)) }
+{
+    let mut text = String::from_str(alloc, before)?;
+    text.push_str(content)?;
+    text.push_str(behind)?;
+    Ok(text)
 }

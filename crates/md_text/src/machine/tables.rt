@@ -3,11 +3,13 @@ ghost use Rattle.std.specs.Prelude.{◌≡◌, ◌-◌, OnOk, IfOk};
 ghost use Rattle.md_text.specs.Laid.{each_laid, put_all};
 ghost use Rattle.md_text.specs.Look.{look_of, knows_nothing, as_it_is};
 ghost use Rattle.md_text.specs.Marks.{styled_span};
+ghost use Rattle.std.specs.Str.Lines.{lines};
 ghost use Rattle.md_text.specs.Spans.{piece};
 ghost use Rattle.md_text.specs.Inlines.{link_spans};
-ghost use Rattle.md_text.specs.Tables.{flat_leaf, in_item, quotes_width, room_for_table, table_picture, indent, begin_picture_line, picture_line, table};
+ghost use Rattle.md_text.specs.Tables.{flat_leaf, flat_lines, in_item, quotes_width, room_for_table, table_picture, indent, begin_picture_line, picture_line, table};
 ghost use Rattle.md_text.specs.State.{with_spans, started_in_table, ended_in_table, laid};
 
+use super::inlines::between;
 use super::{Machine, put_last};
 use crate::environment::{Environment, Fresh};
 use crate::marker::blanks;
@@ -68,6 +70,26 @@ impl<'e, 'a> Machine<'e, 'a> {
         match leaf {
             Event::Text(content) => self.flat_text(content, self.environment.inline_style),
             Event::Code(content) => self.flat_text(content, sheet.code()),
+            Event::InlineHtml(content) => {
+                let style = self.environment.inline_style.patch(sheet.html());
+                self.flat_text(content, style)
+            }
+            Event::InlineMath(content) => {
+                let text = between(self.alloc, "$", content.as_str(), "$")?;
+                let style = self.environment.inline_style.patch(sheet.math_inline());
+                self.builder
+                    .push_span(Span::styled(CowStr::owned(text), style))
+            }
+            Event::DisplayMath(content) => {
+                let text = between(self.alloc, "$$", content.as_str(), "$$")?;
+                self.flat_lines(text.as_str(), sheet.math_display())
+            }
+            Event::FootnoteReference(label) => {
+                let text = between(self.alloc, "[", label.as_str(), "]")?;
+                let style = self.environment.inline_style.patch(sheet.footnote_ref());
+                self.builder
+                    .push_span(Span::styled(CowStr::owned(text), style))
+            }
             Event::SoftBreak | Event::HardBreak => {
                 self.builder.push_span(Span::raw(CowStr::borrowed(" ")))
             }
@@ -81,7 +103,26 @@ impl<'e, 'a> Machine<'e, 'a> {
             ≡ record self.old { builder = with_spans self.old.builder (piece (styled_span content.now style)) }) }
     {
         let text = content.try_clone(self.alloc)?;
+        self.push_piece(text, style)
+    }
+
+    fn push_piece(&mut self, text: CowStr<'a>, style: Style) -> Result<(), AllocError>
+        ensures { OnOk result (self.new
+            ≡ record self.old { builder = with_spans self.old.builder (piece (styled_span text.entry style)) }) }
+    {
         self.builder.push_span(Span::styled(text, style))
+    }
+
+    /// Each line of a text goes to the open cell in a style.
+    fn flat_lines(&mut self, content: &str, style: Style) -> Result<(), AllocError>
+        ensures { OnOk result (self.new
+            ≡ record self.old { builder = with_spans self.old.builder (flat_lines style (lines content.now)) }) }
+    {
+        for line in content.lines() {
+            let owned = String::from_str(self.alloc, line)?;
+            self.push_piece(CowStr::owned(owned), style)?;
+        }
+        Ok(())
     }
 
     /// A link's destination in parentheses goes to the open cell.

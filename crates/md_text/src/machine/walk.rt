@@ -77,7 +77,7 @@ impl<'e, 'a> Machine<'e, 'a> {
     fn keep(&mut self, leaf: &Event<'a>) -> Result<(), AllocError>
         ensures { OnOk result (self.new ≡ record self.old { content = self.old.content ++ leaf_text leaf.now }) }
     {
-        if let Event::Text(text) = leaf {
+        if let Event::Text(text) | Event::Html(text) = leaf {
             self.content.push_str(text.as_str())?;
         }
         Ok(())
@@ -117,7 +117,7 @@ impl<'e, 'a> Machine<'e, 'a> {
         }
     }
 
-    /// What an element outside tables lays out at its end: blocks of code and tables as a whole. What was kept of them is gone
+    /// What an element outside tables lays out at its end: blocks of code and HTML and tables as a whole. What was kept of them is gone
     /// then.
     fn left<S: StyleSheet, H: Highlighter>(
         &mut self,
@@ -132,6 +132,7 @@ impl<'e, 'a> Machine<'e, 'a> {
         let content = mem::replace(&mut self.content, String::new(self.alloc));
         match tag {
             Tag::CodeBlock(kind) => self.code_block(options, highlighter, kind, content.as_str()),
+            Tag::HtmlBlock => self.html_block(options.styles(), content.as_str()),
             Tag::Table(_) => {
                 let none = TableBuilder::new(self.alloc, Vec::new(self.alloc));
                 let builder = mem::replace(&mut self.builder, none);
