@@ -63,7 +63,7 @@ fn refusals_write_nothing(rt: HostRuntime) -> Result<(), Fail> {
         (["0", "2", "0"], "a", Status::Usage),
         (["20", "0", "0"], "a", Status::Usage),
         (["1001", "2", "0"], "a", Status::Usage),
-        (["5", "1", "0"], "a$b", Status::Unbuilt),
+        (["5", "1", "0"], "a<b", Status::Unbuilt),
         (["1", "1", "0"], "漢", Status::TooNarrow),
     ];
     for (words, input, wanted) in rows {

@@ -4,9 +4,9 @@ use Rattle.md_lines.specs.Lines.{LineText, lines_of}
 use Rattle.md_rules.specs.Quotes.{is_same}
 use Rattle.md_rules.specs.Texts.{begins_with, trimmed}
 
--- the byte `b` with `bs` behind it begins a form that is not built: `$`, `<`, `![` or `[^`
+-- the byte `b` with `bs` behind it begins a form that is not built: `<`, `![` or `[^`
 abbrev pub begins_unbuilt : ℕ → List ℕ → Bool
-begins_unbuilt b bs = b == 36 || b == 60 || (b == 33 && begins_with 91 bs) || (b == 91 && begins_with 94 bs)
+begins_unbuilt b bs = b == 60 || (b == 33 && begins_with 91 bs) || (b == 91 && begins_with 94 bs)
 
 -- such a form begins somewhere in these bytes
 unfoldable pub has_unbuilt : List ℕ → Bool

@@ -9,7 +9,7 @@ use term_text::next_line;
 
 /// Whether all forms of the text are built. Takes no memory.
 ///
-/// It is false exactly where the text holds `$`, `<`, `![` or `[^`, or where its first line has indent 0 and the trimmed
+/// It is false exactly where the text holds `<`, `![` or `[^`, or where its first line has indent 0 and the trimmed
 /// body `---`.
 pub fn built(text: &str) -> bool
     ensures { result ≡ built text.now }
@@ -41,7 +41,7 @@ fn begins_unbuilt(b: u8, behind: &[u8]) -> bool
         return false;
     }
     match b {
-        b'$' | b'<' => true,
+        b'<' => true,
         b'!' => matches!(behind.first(), Some(b'[')),
         b'[' => matches!(behind.first(), Some(b'^')),
         _ => false,

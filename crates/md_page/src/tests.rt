@@ -62,7 +62,7 @@ fn refusals_write_nothing(rt: HostRuntime) -> Result<(), Fail> {
         (["20", "2", "x"], "a", Status::Usage),
         (["1001", "2", "0"], "a", Status::Usage),
         (["20", "2", "-1"], "a", Status::Usage),
-        (["5", "1", "0"], "a$b", Status::Unbuilt),
+        (["5", "1", "0"], "a<b", Status::Unbuilt),
         (["1", "1", "0"], "漢", Status::TooNarrow),
     ];
     for (words, input, wanted) in rows {

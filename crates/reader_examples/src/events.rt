@@ -526,7 +526,8 @@ fn descriptions_hold_blocks(rt: HostRuntime) -> Result<(), Fail> {
 fn some_forms_are_not_built(rt: HostRuntime) {
     assert!(rt; built("Hello, *world*! [a](b:c)\r\n---\n|1. > - :\r      \n\tc\n```"));
     assert!(rt; built("Note: this\n: a\n- [x] : b\n\n---\n"));
-    for text in ["a$", "<b", "![a", "[^a", "---", "---  \na"] {
+    assert!(rt; built("$$a$$ $b$ $"));
+    for text in ["<b", "![a", "[^a", "---", "---  \na"] {
         assert!(rt; !built(text));
     }
 }
