@@ -1,5 +1,5 @@
 -- The blocks of lines are good.
-use Rattle.std.proofs.Common.{List, [], ◌∷◌, ◌≡◌, ◌≤◌, ◌<◌, ◌+◌, ◌-◌, ◌^◌, ◌==◌, length, ℕ, zero, suc, refl, sym, arith, true, false, Bool, cond, not, ◌&&◌, map, take, Option, None, Some}
+use Rattle.std.proofs.Common.{List, [], ◌∷◌, ◌≡◌, ◌≤◌, ◌<◌, ◌+◌, ◌-◌, ◌^◌, ◌==◌, length, ℕ, zero, suc, refl, sym, arith, true, false, Bool, cond, not, ◌&&◌, map, drop, take, Option, None, Some}
 use Rattle.std.proofs.lemmas.Bool.{eqb-true, false≢true}
 use Rattle.md_tree.specs.declared.event.Event.TheVariants as event
 use Rattle.md_tree.specs.declared.event.Tag.TheVariants as tag
@@ -27,7 +27,7 @@ use Rattle.md_rules.specs.declared.entry.Entry.{Entry}
 use Rattle.md_rules.specs.declared.entry.Entry.TheVariants.{Title, Description}
 use Rattle.md_rules.specs.Definitions.{description_lines, title_of}
 use Rattle.md_rules.specs.Entries.{entry_more, next_entry}
-use Rattle.md_rules.proofs.Filled.{filled, filled-description, filled-first, filled-item, filled-later, filled-lines_of, filled-quoted, filled-take, filled-without_kind}
+use Rattle.md_rules.proofs.Filled.{filled, filled-description, filled-drop, filled-first, filled-item, filled-later, filled-lines_of, filled-quoted, filled-take, filled-without_kind}
 use Rattle.md_rules.specs.declared.start.Items.TheVariants.{All}
 use Rattle.md_rules.proofs.ItemLemmas.{marker-small}
 use Rattle.md_rules.proofs.StartLemmas.{each-start, item_start-marker}
@@ -35,8 +35,10 @@ use Rattle.md_events.specs.Node.{Node, Run, node_then}
 use Rattle.md_events.specs.CodeBlocks.{code_lines, text_then}
 use Rattle.md_events.specs.Containers.{in_item, inside_quote, item_then, items, list_lines}
 use Rattle.md_events.specs.Definitions.{entries, entry_tag, entry_then, in_entry, in_title}
+use Rattle.md_rules.specs.Metadata.{metadata_in, metadata_lines}
+use Rattle.md_events.specs.Metadata.{further_texts, metadata_texts, metadata_then}
 use Rattle.md_events.specs.Tables.{cell_nodes, row_nodes, rows}
-use Rattle.md_events.specs.Blocks.{block, block_by, blocks, blocks_after, paragraph_more, tree}
+use Rattle.md_events.specs.Blocks.{block, block_by, blocks, blocks_after, document, paragraph_more, tree}
 use Rattle.md_events.proofs.GoodPlaces.{inlines-mixed, with_task-good}
 
 -- the most nonempty lines of a text whose length fits 64 bits
@@ -248,6 +250,28 @@ unfolding blocks
 blocks-good zero = λ h tight may lines small. blocks_after-good h tight false (λ t ls. Empty) may (may-stand h tight may) (may-end h tight may) empty-good 0 lines small
 blocks-good (suc n) = λ h tight may lines small. blocks_after-good h tight true (λ t ls. blocks n t ls) may (may-stand h tight may) (may-end h tight may) (blocks-good n) 0 lines small
 
+metadata_text-good : (text : List ℕ) (rest : Nodes) → good_at (level_of level.MetadataTexts) rest ≡ true → good_at (level_of level.MetadataTexts) (text_then text rest) ≡ true
+metadata_text-good [] rest good = good
+metadata_text-good (b ∷ bs) rest good = good
+
+further_texts-good : (lines : List LineText) → good_at (level_of level.MetadataTexts) (further_texts lines) ≡ true
+unfolding further_texts
+further_texts-good [] = refl
+further_texts-good (line ∷ lines) = metadata_text-good (text_from 0 line) (further_texts lines) (further_texts-good lines)
+
+metadata_texts-good : (lines : List LineText) → good_at (level_of level.MetadataTexts) (metadata_texts lines) ≡ true
+metadata_texts-good [] = refl
+metadata_texts-good (line ∷ lines) = metadata_text-good (text_from 0 line) (further_texts lines) (further_texts-good lines)
+
+metadata_then-good : (m : Option ℕ) (lines : List LineText) (rest : Nodes) → good_at (level_of level.Blocks) rest ≡ true → good_at (level_of level.Blocks) (metadata_then m lines rest) ≡ true
+metadata_then-good None lines rest good = good
+metadata_then-good (Some n) lines rest good = and_both _ _ (metadata_texts-good (take n (drop 1 lines))) good
+
+document-good : (lines : List LineText) → filled lines ≤ most → good_at (level_of level.Blocks) (document lines) ≡ true
+document-good lines small =
+    let k : ℕ = metadata_lines (metadata_in lines) in
+    metadata_then-good (metadata_in lines) lines (blocks 32 false (drop k lines)) (blocks-good 32 level.Blocks false refl (drop k lines) (omega (arith, filled-drop k lines)))
+
 -- the tree of a text whose length fits 64 bits is good
 pub tree-good : (text : List ℕ) → length text < 2 ^ 64 → good_at (level_of level.Blocks) (tree text) ≡ true
-tree-good text small = blocks-good 32 level.Blocks false refl (lines_of text) (omega (arith, filled-lines_of text))
+tree-good text small = document-good (lines_of text) (omega (arith, filled-lines_of text))

@@ -1,5 +1,6 @@
 pub mod Steps
 pub mod CodeSteps
+pub mod MetadataSteps
 pub mod RuleSteps
 pub mod TableSteps
 pub mod TaskSteps

@@ -1,5 +1,5 @@
 -- The blocks of a text.
-use Rattle.std.specs.Prelude.{ℕ, zero, suc, Bool, true, false, ◌||◌, if◌then◌else◌, List, [], ◌∷◌, map, take}
+use Rattle.std.specs.Prelude.{ℕ, zero, suc, Bool, true, false, ◌||◌, if◌then◌else◌, List, [], ◌∷◌, drop, map, take}
 use Rattle.md_tree.specs.Tree.{Nodes, Empty}
 use Rattle.md_lines.specs.Lines.{LineText, body_of, is_empty, lines_of}
 use Rattle.md_inline.specs.Inlines.{inlines}
@@ -10,11 +10,13 @@ use Rattle.md_rules.specs.declared.start.BlockStart.{BlockStart}
 use Rattle.md_rules.specs.declared.start.BlockStart.TheVariants as start
 use Rattle.md_rules.specs.declared.start.Items.TheVariants.{All}
 use Rattle.md_rules.specs.Headings.{heading_at}
+use Rattle.md_rules.specs.Metadata.{metadata_in, metadata_lines}
 use Rattle.md_rules.specs.Starts.{block_start, interrupts}
 use Rattle.md_events.specs.Node.{Block, Element, Node, Run, Single, node_then, one_line}
 use Rattle.md_events.specs.CodeBlocks.{fence_block, indented}
 use Rattle.md_events.specs.Containers.{list, quote}
 use Rattle.md_events.specs.Tables.{table}
+use Rattle.md_events.specs.Metadata.{metadata_then}
 use Rattle.md_events.specs.Definitions.{definitions}
 
 -- how many lines go on with a paragraph: each further nonempty line at which no other block begins
@@ -61,6 +63,11 @@ unfoldable pub blocks : ℕ → Bool → List LineText → Nodes
 blocks zero tight lines = blocks_after false (λ t ls. Empty) tight 0 lines
 blocks (suc n) tight lines = blocks_after true (λ t ls. blocks n t ls) tight 0 lines
 
--- the tree of a text, in which containers may stand 32 levels deep
+-- the metadata of a document, if its lines begin with it, and the blocks of the rest, in which containers may stand 32 levels
+-- deep
+abbrev pub document : List LineText → Nodes
+document lines = metadata_then (metadata_in lines) lines (blocks 32 false (drop (metadata_lines (metadata_in lines)) lines))
+
+-- the tree of a text
 abbrev pub tree : List ℕ → Nodes
-tree text = blocks 32 false (lines_of text)
+tree text = document (lines_of text)

@@ -1,8 +1,6 @@
 -- The texts whose forms are all built.
-use Rattle.std.specs.Prelude.{ℕ, ◌==◌, Bool, false, not, ◌||◌, ◌&&◌, List, [], ◌∷◌, codes}
-use Rattle.md_lines.specs.Lines.{LineText, lines_of}
-use Rattle.md_rules.specs.Quotes.{is_same}
-use Rattle.md_rules.specs.Texts.{begins_with, trimmed}
+use Rattle.std.specs.Prelude.{ℕ, ◌==◌, Bool, false, not, ◌||◌, ◌&&◌, List, [], ◌∷◌}
+use Rattle.md_rules.specs.Texts.{begins_with}
 
 -- the byte `b` with `bs` behind it begins a form that is not built: `<`, `![` or `[^`
 abbrev pub begins_unbuilt : ℕ → List ℕ → Bool
@@ -13,11 +11,6 @@ unfoldable pub has_unbuilt : List ℕ → Bool
 has_unbuilt [] = false
 has_unbuilt (b ∷ bs) = begins_unbuilt b bs || has_unbuilt bs
 
--- the first line has indent 0 and nothing but `---`
-abbrev pub begins_metadata : List LineText → Bool
-begins_metadata [] = false
-begins_metadata (line ∷ lines) = line.indent == 0 && is_same (trimmed line.body) (codes "---")
-
--- all forms of a text are built: no such form begins in it, and its first line is not such a line
+-- all forms of a text are built: no such form begins in it
 abbrev pub built : List ℕ → Bool
-built text = not (has_unbuilt text) && not (begins_metadata (lines_of text))
+built text = not (has_unbuilt text)

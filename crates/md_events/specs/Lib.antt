@@ -17,6 +17,7 @@ pub use Rattle.md_rules.specs.Code
 pub use Rattle.md_rules.specs.Fences
 pub use Rattle.md_rules.specs.ThematicBreaks
 pub use Rattle.md_rules.specs.Quotes
+pub use Rattle.md_rules.specs.Metadata as LineMetadata
 pub use Rattle.md_rules.specs.Items
 pub use Rattle.md_rules.specs.Tables as LineTables
 pub use Rattle.md_rules.specs.Starts
@@ -29,6 +30,7 @@ pub mod CodeBlocks
 pub mod Containers
 pub mod Tables
 pub mod Definitions
+pub mod Metadata
 pub mod Blocks
 pub mod Taken
 pub mod Written

@@ -2,7 +2,8 @@
 ghost use Rattle.std.specs.Prelude.{◌≡◌, ◌++◌, ◌≤◌, IfOk, OnOk, length, false};
 ghost use Rattle.md_tree.specs.Tree.{Empty, events};
 ghost use Rattle.md_events.specs.Node.{Element, node_then};
-ghost use Rattle.md_events.specs.CodeBlocks.{code_line, code_lines};
+ghost use Rattle.md_events.specs.CodeBlocks.{code_line, code_lines, text_then};
+ghost use Rattle.md_rules.specs.Code.{text_from};
 ghost use Rattle.md_events.specs.Written.{fence_events};
 ghost use Rattle.md_rules.specs.Fences.{fence_more};
 ghost use Rattle.md_tree.specs.declared.event.Tag.TheVariants as tag;
@@ -78,10 +79,23 @@ fn write_code_line<'a>(
 ) -> Result<(), AllocError>
     ensures { OnOk result (out.new.items ≡ out.old.items ++ events (code_line column line.now Empty)) }
 {
+    write_text(alloc, column, line, out)?;
+    out.push(Event::Text(CowStr::borrowed("\n")))?;
+    Ok(())
+}
+
+/// Appends the text of a line from a column on, if it is not empty.
+pub(crate) fn write_text<'a>(
+    alloc: Global,
+    column: u128,
+    line: &Line<'a>,
+    out: &mut Vec<Event<'a>>,
+) -> Result<(), AllocError>
+    ensures { OnOk result (out.new.items ≡ out.old.items ++ events (text_then (text_from column line.now) Empty)) }
+{
     let text = text_from(alloc, column, line)?;
     if !text.as_str().is_empty() {
         out.push(Event::Text(text))?;
     }
-    out.push(Event::Text(CowStr::borrowed("\n")))?;
     Ok(())
 }

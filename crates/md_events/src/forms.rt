@@ -1,23 +1,17 @@
 // The forms of the dialect that are built.
 ghost use Rattle.std.specs.Prelude.{◌≡◌};
-ghost use Rattle.md_lines.specs.Lines.{lines_of};
-ghost use Rattle.md_events.specs.Built.{begins_metadata, begins_unbuilt, built, has_unbuilt};
-
-use md_lines::line_of;
-use md_rules::is_dashes;
-use term_text::next_line;
+ghost use Rattle.md_events.specs.Built.{begins_unbuilt, built, has_unbuilt};
 
 /// Whether all forms of the text are built. Takes no memory.
 ///
-/// It is false exactly where the text holds `<`, `![` or `[^`, or where its first line has indent 0 and the trimmed
-/// body `---`.
+/// It is false exactly where the text holds `<`, `![` or `[^`.
 pub fn built(text: &str) -> bool
     ensures { result ≡ built text.now }
 {
-    !has_unbuilt(text.as_bytes()) && !begins_metadata(text)
+    !has_unbuilt(text.as_bytes())
 }
 
-/// Whether a form that is not built begins somewhere, metadata aside.
+/// Whether a form that is not built begins somewhere.
 #[tactic(auto, unfolding(crate::specs::Built::has_unbuilt))]
 fn has_unbuilt(bytes: &[u8]) -> bool
     ensures { result ≡ has_unbuilt bytes.now }
@@ -46,16 +40,4 @@ fn begins_unbuilt(b: u8, behind: &[u8]) -> bool
         b'[' => matches!(behind.first(), Some(b'^')),
         _ => false,
     }
-}
-
-/// Whether the text begins as metadata does.
-fn begins_metadata(text: &str) -> bool
-    ensures { result ≡ begins_metadata (lines_of text.now) }
-{
-    if text.is_empty() {
-        return false;
-    }
-    let (first, _) = next_line(text);
-    let line = line_of(first);
-    line.indent == 0 && is_dashes(line.body)
 }

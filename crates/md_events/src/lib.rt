@@ -7,6 +7,7 @@ mod definitions;
 mod forms;
 mod heading;
 pub mod laws;
+mod metadata;
 mod paragraph;
 mod reader;
 mod tables;

@@ -5,11 +5,12 @@ ghost use Rattle.md_events.specs.Blocks.{tree};
 ghost use Rattle.md_events.specs.Built.{built};
 
 use crate::blocks::write_blocks;
+use crate::metadata::write_metadata;
 use md_lines::lines_of;
 use md_tree::Event;
 use std::alloc::{AllocError, Global};
 
-/// How many levels deep quotes and items may stand in one another.
+/// How many levels deep containers may stand in one another.
 const DEPTH_LIMIT: usize = 32;
 
 /// The events of the text's tree; the texts in them borrow from it. The forms of the text must all be built: `built`
@@ -20,6 +21,8 @@ pub fn read<'a>(alloc: Global, text: &'a str) -> Result<Vec<Event<'a>>, AllocErr
 {
     let lines = lines_of(alloc, text)?;
     let mut out = Vec::new(alloc);
-    write_blocks(alloc, lines.as_slice(), DEPTH_LIMIT, false, &mut out)?;
+    let lines = lines.as_slice();
+    let front = write_metadata(alloc, lines, &mut out)?;
+    write_blocks(alloc, &lines[front..], DEPTH_LIMIT, false, &mut out)?;
     Ok(out)
 }

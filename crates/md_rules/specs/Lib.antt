@@ -6,6 +6,7 @@ pub mod Code
 pub mod Fences
 pub mod ThematicBreaks
 pub mod Quotes
+pub mod Metadata
 pub mod Hung
 pub mod Items
 pub mod Tables

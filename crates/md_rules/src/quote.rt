@@ -1,6 +1,5 @@
 // Quotes and alerts.
-ghost use Rattle.std.specs.Prelude.{◌≡◌, codes, IfOk, IsTrue};
-ghost use Rattle.md_rules.specs.Texts.{trimmed};
+ghost use Rattle.std.specs.Prelude.{◌≡◌, IfOk, IsTrue};
 ghost use Rattle.md_rules.specs.Quotes.{alert_of, first_alert, is_same, kind_of, less, quoted, quotes, unquoted, without_kind};
 
 use crate::shallow::is_shallow;
@@ -53,17 +52,10 @@ pub fn quoted<'a>(alloc: Global, lines: &[Line<'a>]) -> Result<Vec<Line<'a>>, Al
 }
 
 /// Whether two texts are the same, ASCII case aside.
-fn is_same(text: &str, other: &str) -> bool
+pub(crate) fn is_same(text: &str, other: &str) -> bool
     ensures { result ≡ is_same text.now other.now }
 {
     text.eq_ignore_ascii_case(other)
-}
-
-/// Whether the body is `---`, blanks at its ends aside.
-pub fn is_dashes(body: &str) -> bool
-    ensures { result ≡ is_same (trimmed body.now) (codes "---") }
-{
-    is_same(trimmed(body), "---")
 }
 
 /// The kind of alert that a text names.

@@ -102,6 +102,7 @@ fn show_start(shown: &mut String, tag: &Tag) -> Result<(), AllocError> {
         Tag::TableHead => shown.push_str("<head>"),
         Tag::TableRow => shown.push_str("<row>"),
         Tag::TableCell => shown.push_str("["),
+        Tag::MetadataBlock => shown.push_str("<meta>"),
         Tag::DefinitionList => shown.push_str("<dl>"),
         Tag::DefinitionListTitle => shown.push_str("<dt>"),
         Tag::DefinitionListDefinition => shown.push_str("<dd>"),
@@ -126,6 +127,7 @@ fn show_end(shown: &mut String, tag: TagEnd) -> Result<(), AllocError> {
         TagEnd::TableHead => shown.push_str("</head>"),
         TagEnd::TableRow => shown.push_str("</row>"),
         TagEnd::TableCell => shown.push_str("]"),
+        TagEnd::MetadataBlock => shown.push_str("</meta>"),
         TagEnd::DefinitionList => shown.push_str("</dl>"),
         TagEnd::DefinitionListTitle => shown.push_str("</dt>"),
         TagEnd::DefinitionListDefinition => shown.push_str("</dd>"),
@@ -523,11 +525,38 @@ fn descriptions_hold_blocks(rt: HostRuntime) -> Result<(), Fail> {
 }
 
 #[test]
+fn metadata_stands_at_the_start(rt: HostRuntime) -> Result<(), Fail> {
+    let rows = [
+        (
+            "---\na: b\n\nc: d\n---\ne",
+            "<meta>(a: b)//(c: d)</meta><p>(e)</p>",
+        ),
+        ("---\n---\na", "<meta></meta><p>(a)</p>"),
+        (
+            "--- \n  *a*\n\t\n# b\n ---\n---\t\n---\nc",
+            "<meta>(  *a*)/(    )/(# b)/( ---)</meta><rule><p>(c)</p>",
+        ),
+        ("---\n\na\n---", "<rule><p>(a)</p><rule>"),
+        ("\n---\na: b\n---", "<rule><p>(a: b)</p><rule>"),
+        (" ---\na: b\n---", "<rule><p>(a: b)</p><rule>"),
+        ("----\na: b\n---", "<rule><p>(a: b)</p><rule>"),
+        (
+            "---\na\n...\n ---\nb",
+            "<rule><p>(a)/(...)</p><rule><p>(b)</p>",
+        ),
+        ("> ---\n> a\n> ---", "<quote><rule><p>(a)</p><rule></quote>"),
+        ("a\n---\nb\n---", "<p>(a)</p><rule><p>(b)</p><rule>"),
+        ("---", "<rule>"),
+    ];
+    compare(&rt, rt.alloc(), &rows)
+}
+
+#[test]
 fn some_forms_are_not_built(rt: HostRuntime) {
     assert!(rt; built("Hello, *world*! [a](b:c)\r\n---\n|1. > - :\r      \n\tc\n```"));
-    assert!(rt; built("Note: this\n: a\n- [x] : b\n\n---\n"));
+    assert!(rt; built("---\nNote: this\n: a\n- [x] : b\n\n---\n"));
     assert!(rt; built("$$a$$ $b$ $"));
-    for text in ["<b", "![a", "[^a", "---", "---  \na"] {
+    for text in ["<b", "![a", "[^a"] {
         assert!(rt; !built(text));
     }
 }
