@@ -160,15 +160,15 @@ fn images_show_what_the_options_say(rt: HostRuntime) -> Result<(), Fail> {
     let rows = [
         (
             ImageFallback::AltText,
-            "|x|[img] <alt>|a<alt>| <alt>|c<alt code>|[img] <alt>|v<alt>|[img]<alt>|\n",
+            "|x|[img] <script>|a<script>| <script>|c<?>|[img] <script>|v<script>|[img]<script>|\n",
         ),
         (
             ImageFallback::Url,
-            "|x|[img] <alt>|u<alt>|[img] <alt>|v<alt>|[img]<alt>|\n",
+            "|x|[img] <script>|u<script>|[img] <script>|v<script>|[img]<script>|\n",
         ),
         (
             ImageFallback::AltTextAndUrl,
-            "|x|[img] <alt>|a<alt>| <alt>|c<alt code>| (u)<alt>|[img] <alt>|v<alt>|[img]<alt>|\n",
+            "|x|[img] <script>|a<script>| <script>|c<?>| (u)<script>|[img] <script>|v<script>|[img]<script>|\n",
         ),
     ];
     for (fallback, want) in rows {
@@ -196,7 +196,10 @@ fn images_stand_in_images_and_cells(rt: HostRuntime) -> Result<(), Fail> {
         Event::End(TagEnd::Image),
         Event::End(TagEnd::Paragraph),
     ];
-    assert_eq!(rt; shown(&rt, alloc, &nested)?.as_str(), "");
+    assert_eq!(rt;
+        shown(&rt, alloc, &nested)?.as_str(),
+        "|[img] <script>|a<script>|[img] <script>|b<?>| (|u<link>|)|[img] <script>|w<script>|\n"
+    );
     let table = [
         Event::Start(Tag::Table(Alignments::new(alloc))),
         Event::Start(Tag::TableHead),
@@ -213,7 +216,10 @@ fn images_stand_in_images_and_cells(rt: HostRuntime) -> Result<(), Fail> {
         Event::End(TagEnd::TableHead),
         Event::End(TagEnd::Table),
     ];
-    assert_eq!(rt; shown(&rt, alloc, &table)?.as_str(), "");
+    assert_eq!(rt;
+        shown(&rt, alloc, &table)?.as_str(),
+        "|┌────────────────────────┐<border>|\n|│<border>| <h2>|x<h2>|[img] <?>|b<?>|$m$<?>|$$n$$<h2>|[f]<?>|<i><?>| <h2>|│<border>|\n|├────────────────────────┤<border>|\n|└────────────────────────┘<border>|\n"
+    );
     Ok(())
 }
 
@@ -231,7 +237,10 @@ fn notes_and_math_have_lines_of_their_own(rt: HostRuntime) -> Result<(), Fail> {
         Event::End(TagEnd::Paragraph),
         Event::End(TagEnd::FootnoteDefinition),
     ];
-    assert_eq!(rt; shown(&rt, alloc, &footnote)?.as_str(), "");
+    assert_eq!(rt;
+        shown(&rt, alloc, &footnote)?.as_str(),
+        "<dim>|[1]: <dim>|a|[2]<script>|\n<dim>|\n<dim>|b|\n"
+    );
     let definitions = [
         Event::Start(Tag::DefinitionList),
         Event::Start(Tag::DefinitionListTitle),
@@ -249,7 +258,10 @@ fn notes_and_math_have_lines_of_their_own(rt: HostRuntime) -> Result<(), Fail> {
         Event::End(TagEnd::DefinitionListDefinition),
         Event::End(TagEnd::DefinitionList),
     ];
-    assert_eq!(rt; shown(&rt, alloc, &definitions)?.as_str(), "");
+    assert_eq!(rt;
+        shown(&rt, alloc, &definitions)?.as_str(),
+        "|t<bold>|\n|: |d|\n|\n|e|\n|: |\n"
+    );
     let others = [
         Event::Start(Tag::MetadataBlock),
         text("a"),
@@ -266,6 +278,9 @@ fn notes_and_math_have_lines_of_their_own(rt: HostRuntime) -> Result<(), Fail> {
         Event::InlineHtml(CowStr::borrowed("<i>")),
         Event::End(TagEnd::Paragraph),
     ];
-    assert_eq!(rt; shown(&rt, alloc, &others)?.as_str(), "");
+    assert_eq!(rt;
+        shown(&rt, alloc, &others)?.as_str(),
+        "<?>|---|\n<?>|a|\n<?>|b|\n<?>|---|\n|\n|<p><dim>|\n<dim>|xy<dim>|\n|\n|$m$<?>|$$n<?>|\n|o$$<?>|\n|<i><dim>|\n"
+    );
     Ok(())
 }
