@@ -12,8 +12,8 @@ pub use md_events::{
 pub use md_page::{ViewError, render_view};
 pub use md_table::{RowDividers, TableBuilder};
 pub use md_text::{
-    AlertKind, AnsiFence, CustomSheet, DefaultStyleSheet, Highlighter, NoHighlight, Options,
-    RenderError, StyleSheet, from_events, from_str, from_str_with_options,
+    AlertKind, AnsiFence, CustomSheet, DefaultStyleSheet, Highlighter, ImageFallback, NoHighlight,
+    Options, RenderError, StyleSheet, from_events, from_str, from_str_with_options,
 };
 pub use term_ansi::{PrintError, print_ansi, separable};
 pub use term_core::{

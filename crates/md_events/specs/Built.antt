@@ -2,9 +2,9 @@
 use Rattle.std.specs.Prelude.{ℕ, ◌==◌, Bool, false, not, ◌||◌, ◌&&◌, List, [], ◌∷◌}
 use Rattle.md_rules.specs.Texts.{begins_with}
 
--- the byte `b` with `bs` behind it begins a form that is not built: `<`, `![` or `[^`
+-- the byte `b` with `bs` behind it begins a form that is not built: `<` or `[^`
 abbrev pub begins_unbuilt : ℕ → List ℕ → Bool
-begins_unbuilt b bs = b == 60 || (b == 33 && begins_with 91 bs) || (b == 91 && begins_with 94 bs)
+begins_unbuilt b bs = b == 60 || (b == 91 && begins_with 94 bs)
 
 -- such a form begins somewhere in these bytes
 unfoldable pub has_unbuilt : List ℕ → Bool

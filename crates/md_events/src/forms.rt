@@ -4,7 +4,7 @@ ghost use Rattle.md_events.specs.Built.{begins_unbuilt, built, has_unbuilt};
 
 /// Whether all forms of the text are built. Takes no memory.
 ///
-/// It is false exactly where the text holds `<`, `![` or `[^`.
+/// It is false exactly where the text holds `<` or `[^`.
 pub fn built(text: &str) -> bool
     ensures { result ≡ built text.now }
 {
@@ -36,7 +36,6 @@ fn begins_unbuilt(b: u8, behind: &[u8]) -> bool
     }
     match b {
         b'<' => true,
-        b'!' => matches!(behind.first(), Some(b'[')),
         b'[' => matches!(behind.first(), Some(b'^')),
         _ => false,
     }

@@ -8,6 +8,9 @@ pub mod TextLines
 pub mod Words
 pub mod CodeInside
 pub mod FlatLines
+pub mod FlatPieces
+pub mod ImageRuns
+pub mod ImageLemmas
 pub mod FlatRuns
 pub mod TableRuns
 pub mod Widths

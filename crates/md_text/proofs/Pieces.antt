@@ -23,13 +23,14 @@ use Rattle.md_text.specs.declared.environment.Spacing.{Spacing}
 use Rattle.md_text.specs.declared.environment.Fresh.{Fresh}
 use Rattle.md_text.specs.declared.environment.Fresh.TheVariants as fresh
 use Rattle.md_text.specs.Marks.{Mark, Open, Put, Pad, plain_span, styled_span}
-use Rattle.md_text.specs.Laid.{Laid, nothing_laid, then_laid, each_laid, open_styled, open_laid, gap_laid, join_laid, put_laid, put_all}
+use Rattle.md_text.specs.Laid.{Laid, nothing_laid, then_laid, each_laid, open_styled, open_laid, gap_laid, join_laid, put_laid, put_all, join_all}
 use Rattle.md_text.specs.Look.{Look}
 use Rattle.md_text.specs.Environment.{environment_inside, environment_after}
 use Rattle.md_text.specs.Headings.{level_number, with_blank, heading, attribute_suffix}
 use Rattle.md_text.specs.Spans.{piece, pieces_of, each_pieces}
 use Rattle.md_text.specs.Blocks.{paragraph, enter, leave}
 use Rattle.md_text.specs.Inlines.{begin_line, text_lines, display_math, inline_math, joined_text, math_environment, reference, rule, soft_break, link_spans, leaf}
+use Rattle.md_text.specs.Flat.{flat, image_in}
 use Rattle.md_text.specs.Html.{html_block, html_environment}
 use Rattle.md_text.specs.Notes.{footnote, label, metadata}
 use Rattle.md_text.specs.Code.{info, recognised, code_environment, fence, coloured_line, answered_line, code_lines, apart, code_block}
@@ -289,13 +290,20 @@ puts-table look env spacing view =
     (ap (λ (marks : List Mark). puts marks) (append-nil b.marks)
     ∙ puts-each (picture_line env) (λ (line : LineView). pieces_of line.spans) (puts-picture_line env) a.after (table_picture look env view))
 
+puts-join_all : (env : Environment) (s : Spacing) (spans : List SpanView) → puts (join_all env s spans).marks ≡ pieces_of spans
+puts-join_all env s spans =
+    let a = join_laid env s in
+    puts2 a.marks (put_all a.after spans).marks [] (pieces_of spans) (puts-join env s.due s.fresh s.any_line) (puts-put_all a.after spans)
+
 -- an element puts its pieces if what is inside it puts those of the nodes
 puts-branch : (look : Look) (env : Environment) (s : Spacing) (t : Tag) (nodes : Nodes) (inside : Spacing → Laid) (within : List SpanView) →
     ((spacing : Spacing) → puts (inside spacing).marks ≡ within) →
     puts (branch look env s t nodes inside).marks ≡ branch_pieces look env t nodes within
 puts-branch look env s (tag.CodeBlock kind) nodes inside within h = puts-code_block look env s kind (texts nodes)
 puts-branch look env s tag.HtmlBlock nodes inside within h = puts-html_block look.sheet env s.due s.fresh s.any_line (texts nodes)
-puts-branch look env s (tag.Table alignments) nodes inside within h = puts-table look env s (table_of look.sheet env alignments nodes)
+puts-branch look env s (tag.Table alignments) nodes inside within h = puts-table look env s (table_of look env alignments nodes)
+puts-branch look env s (tag.Image dest) nodes inside within h =
+    puts-join_all env s (image_in look env dest (flat look (environment_inside look.sheet env (tag.Image dest) nodes) nodes))
 puts-branch look env s t nodes inside within h =
     let a = enter look.sheet env s t in
     let b = inside a.after in

@@ -1,5 +1,5 @@
 -- A run over a tree's events draws the tree's layout.
-use Rattle.std.proofs.Common.{◌≡◌, ℕ, List, [], ◌∷◌, ◌++◌, true, false, refl, ap, sym, ◌∙◌}
+use Rattle.std.proofs.Common.{◌≡◌, ℕ, List, [], ◌∷◌, ◌++◌, Bool, true, false, cond, refl, ap, sym, ◌∙◌}
 use Rattle.term_text.specs.Text.{LineView}
 use Rattle.md_tree.specs.declared.event.Event.{Event}
 use Rattle.md_tree.specs.declared.event.Event.TheVariants as event
@@ -10,7 +10,8 @@ use Rattle.md_tree.specs.Tree.{Nodes, Empty, Leaf, Branch, events, events_then, 
 use Rattle.md_tree.specs.Good.{good, good_at, place_inside, place_after, place_after_leaf, document_place}
 use Rattle.md_text.specs.declared.environment.Environment.{Environment}
 use Rattle.md_text.specs.declared.environment.Spacing.{Spacing}
-use Rattle.md_text.specs.Marks.{Mark, draws}
+use Rattle.md_text.specs.Marks.{Mark, draws, plain_span}
+use Rattle.md_text.specs.Laid.{join_all}
 use Rattle.md_text.specs.Look.{Look}
 use Rattle.md_text.specs.Environment.{first_environment, first_spacing, environment_inside, environment_after}
 use Rattle.md_text.specs.Blocks.{paragraph, enter, leave}
@@ -18,12 +19,14 @@ use Rattle.md_text.specs.Inlines.{task_mark, leaf}
 use Rattle.md_text.specs.Texts.{texts}
 use Rattle.md_text.specs.Code.{code_block}
 use Rattle.md_text.specs.Html.{html_block}
+use Rattle.md_text.specs.Flat.{flat, image_in}
 use Rattle.md_text.specs.Tables.{table, table_of}
 use Rattle.md_text.specs.Layout.{layout, document_lines}
-use Rattle.md_text.specs.State.{Begun, State, environment_behind, run, first_state}
+use Rattle.md_text.specs.State.{Begun, State, environment_behind, new_builder, run, first_state}
 use Rattle.md_text.proofs.States.{within_lines, lines_state}
 use Rattle.md_text.proofs.GoodNodes.{good-behind_leaf, good-inside, good-behind}
 use Rattle.md_text.proofs.CodeInside.{element-in-code, element-in-html, run-texts}
+use Rattle.md_text.proofs.ImageRuns.{has-place, run-image}
 use Rattle.md_text.proofs.TableRuns.{run-table}
 use Rattle.md_text.proofs.Widths.{ahead, no-task, ahead-none}
 use Rattle.md_text.proofs.Draws.{draws-append}
@@ -89,7 +92,7 @@ run-events_then look (Branch tag.Paragraph inside rest) es elements env spacing 
     let c = leave look.sheet (within_lines env) b.after tag.Paragraph in
     let d = layout look (within_lines env_in) c.after rest in
     let lines_in = draws (draws lines a.marks) b.marks in
-    let begun : Begun = record { tag = tag.Paragraph; environment = within_lines env } in
+    let begun : Begun = record { tag = tag.Paragraph; environment = within_lines env; start = 0 } in
     run-events_then look inside (event.End (end_of tag.Paragraph) ∷ events_then rest es) (begun ∷ elements)
     env a.after (draws lines a.marks) (place_inside p tag.Paragraph) (good-inside p tag.Paragraph inside rest g)
     ∙ ap (λ (width : ℕ). run look (events_then rest es) (lines_state elements (record env { item_width = width }) c.after (draws lines_in c.marks))) (width-behind inside env_in)
@@ -99,7 +102,7 @@ run-events_then look (Branch tag.Paragraph inside rest) es elements env spacing 
 run-events_then look (Branch (tag.CodeBlock kind) inside rest) es elements env spacing lines p g =
     let block = code_block look (within_lines env) spacing kind (texts inside) in
     let d = layout look (within_lines env) block.after rest in
-    let begun : Begun = record { tag = tag.CodeBlock kind; environment = within_lines env } in
+    let begun : Begun = record { tag = tag.CodeBlock kind; environment = within_lines env; start = 0 } in
     run-texts level.CodeTexts element-in-code look inside (event.End (end_of (tag.CodeBlock kind)) ∷ events_then rest es) (begun ∷ elements)
     env spacing [] lines (good-inside p (tag.CodeBlock kind) inside rest g)
     ∙ run-events_then look rest es elements env block.after (draws lines block.marks) (place_after p (tag.CodeBlock kind)) (good-behind p (tag.CodeBlock kind) inside rest g)
@@ -108,20 +111,34 @@ run-events_then look (Branch (tag.CodeBlock kind) inside rest) es elements env s
 run-events_then look (Branch tag.HtmlBlock inside rest) es elements env spacing lines p g =
     let block = html_block look.sheet (within_lines env) spacing (texts inside) in
     let d = layout look (within_lines env) block.after rest in
-    let begun : Begun = record { tag = tag.HtmlBlock; environment = within_lines env } in
+    let begun : Begun = record { tag = tag.HtmlBlock; environment = within_lines env; start = 0 } in
     run-texts level.HtmlTexts element-in-html look inside (event.End (end_of tag.HtmlBlock) ∷ events_then rest es) (begun ∷ elements)
     env spacing [] lines (good-inside p tag.HtmlBlock inside rest g)
     ∙ run-events_then look rest es elements env block.after (draws lines block.marks) (place_after p tag.HtmlBlock) (good-behind p tag.HtmlBlock inside rest g)
     ∙ behind-later look rest es elements env block.after (draws lines block.marks) (place_after p tag.HtmlBlock) refl (good-behind p tag.HtmlBlock inside rest g)
     ∙ join2 look es elements (environment_of env rest) d.after lines block.marks d.marks
 run-events_then look (Branch (tag.Table alignments) inside rest) es elements env spacing lines p g =
-    let block = table look (within_lines env) spacing (table_of look.sheet (within_lines env) alignments inside) in
+    let block = table look (within_lines env) spacing (table_of look (within_lines env) alignments inside) in
     let d = layout look (within_lines env) block.after rest in
-    let begun : Begun = record { tag = tag.Table alignments; environment = within_lines env } in
+    let begun : Begun = record { tag = tag.Table alignments; environment = within_lines env; start = 0 } in
     run-table look inside (event.End (end_of (tag.Table alignments)) ∷ events_then rest es) (begun ∷ elements)
     env spacing alignments lines (good-inside p (tag.Table alignments) inside rest g)
     ∙ run-events_then look rest es elements env block.after (draws lines block.marks) (place_after p (tag.Table alignments)) (good-behind p (tag.Table alignments) inside rest g)
     ∙ behind-later look rest es elements env block.after (draws lines block.marks) (place_after p (tag.Table alignments)) refl (good-behind p (tag.Table alignments) inside rest g)
+    ∙ join2 look es elements (environment_of env rest) d.after lines block.marks d.marks
+run-events_then look (Branch (tag.Image dest) inside rest) es elements env spacing lines p g =
+    let env_in = environment_inside look.sheet (within_lines env) (tag.Image dest) inside in
+    let description = flat look env_in inside in
+    let block = join_all (within_lines env) spacing (image_in look (within_lines env) dest description) in
+    let d = layout look (within_lines env) block.after rest in
+    let begun : Begun = record { tag = tag.Image dest; environment = within_lines env; start = 0 } in
+    let ends = event.End (end_of (tag.Image dest)) ∷ events_then rest es in
+    run-image look inside ends (begun ∷ elements) env_in spacing (new_builder []) (plain_span [] ∷ []) lines (place_inside p (tag.Image dest)).in_link
+    (good-inside p (tag.Image dest) inside rest g)
+    ∙ ap (λ (some : Bool). run look (events_then rest es) (cond some (lines_state elements env block.after (draws lines block.marks))
+    (record (lines_state elements env spacing lines) { pieces = plain_span [] ∷ description }))) (has-place [] description (plain_span []))
+    ∙ run-events_then look rest es elements env block.after (draws lines block.marks) (place_after p (tag.Image dest)) (good-behind p (tag.Image dest) inside rest g)
+    ∙ behind-later look rest es elements env block.after (draws lines block.marks) (place_after p (tag.Image dest)) refl (good-behind p (tag.Image dest) inside rest g)
     ∙ join2 look es elements (environment_of env rest) d.after lines block.marks d.marks
 run-events_then look (Branch tag.Item inside rest) es elements env spacing lines p g =
     let env_in = environment_inside look.sheet env tag.Item inside in
@@ -130,7 +147,7 @@ run-events_then look (Branch tag.Item inside rest) es elements env spacing lines
     let b = layout look (within_lines env_in) a.after inside in
     let d = layout look (within_lines env_after) b.after rest in
     let lines_in = draws (draws lines a.marks) b.marks in
-    let begun : Begun = record { tag = tag.Item; environment = within_lines env } in
+    let begun : Begun = record { tag = tag.Item; environment = within_lines env; start = 0 } in
     run-events_then look inside (event.End (end_of tag.Item) ∷ events_then rest es) (begun ∷ elements)
     (environment_inside look.sheet env tag.Item Empty) a.after (draws lines a.marks) (place_inside p tag.Item) (good-inside p tag.Item inside rest g)
     ∙ run-events_then look rest es elements env_after b.after lines_in (place_after p tag.Item) (good-behind p tag.Item inside rest g)
@@ -143,7 +160,7 @@ run-events_then look (Branch t inside rest) es elements env spacing lines p g =
     let c = leave look.sheet (within_lines env) b.after t in
     let d = layout look (within_lines env) c.after rest in
     let ends = event.End (end_of t) ∷ events_then rest es in
-    let begun : Begun = record { tag = t; environment = within_lines env } in
+    let begun : Begun = record { tag = t; environment = within_lines env; start = 0 } in
     let lines_in = draws (draws lines a.marks) b.marks in
     run-events_then look inside ends (begun ∷ elements) env_in a.after (draws lines a.marks) (place_inside p t) (good-inside p t inside rest g)
     ∙ behind-later look inside ends (begun ∷ elements) env_in a.after (draws lines a.marks) (place_inside p t) refl (good-inside p t inside rest g)

@@ -309,6 +309,7 @@ opening-begins : (look : Look) (env : Environment) (s : Spacing) (t : Tag) (insi
 opening-begins look env s (tag.CodeBlock kind) inside h k = cc
 opening-begins look env s tag.HtmlBlock inside h k = cc
 opening-begins look env s (tag.Table alignments) inside h k = cc
+opening-begins look env s (tag.Image dest) inside h k = cc
 opening-begins look env s t inside h k =
     let a = enter look.sheet env s t in
     let b = within look env t inside a.after in
@@ -364,7 +365,7 @@ element-begins look tag.DefinitionList inside env s p o m g r begins =
 element-begins look tag.DefinitionListTitle inside env s p o m g r begins = absurd (no_entries p.holds o m)
 element-begins look tag.DefinitionListDefinition inside env s p o m g r begins = absurd (no_entries p.holds o m)
 element-begins look (tag.Table alignments) inside env s p o m g r begins =
-    table-begins look env s.due s.fresh s.any_line (table_of look.sheet env alignments inside) r
+    table-begins look env s.due s.fresh s.any_line (table_of look env alignments inside) r
 element-begins look tag.TableHead inside env s p o m g r begins = absurd (no_head p.holds o m)
 element-begins look tag.TableRow inside env s p o m g r begins = absurd (no_rows p.holds o m)
 element-begins look tag.TableCell inside env s p o m g r begins = absurd (no_cells p.holds o m)

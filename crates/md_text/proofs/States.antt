@@ -1,10 +1,10 @@
 -- The states of a run, by what leaves stand in.
 use Rattle.std.proofs.Common.{ℕ, List, []}
-use Rattle.term_text.specs.Text.{LineView}
+use Rattle.term_text.specs.Text.{SpanView, LineView}
 use Rattle.md_table.specs.Builder.{BuilderView}
 use Rattle.md_text.specs.declared.environment.Environment.{Environment}
 use Rattle.md_text.specs.declared.environment.Spacing.{Spacing}
-use Rattle.md_text.specs.declared.environment.Within.TheVariants.{Lines, Code, Cell}
+use Rattle.md_text.specs.declared.environment.Within.TheVariants.{Lines, Code, Cell, Image}
 use Rattle.md_text.specs.State.{Begun, State, new_builder}
 
 abbrev pub within_lines : Environment → Environment
@@ -25,6 +25,7 @@ lines_state elements env spacing lines =
       spacing = spacing;
       content = [];
       builder = new_builder [];
+      pieces = [];
       lines = lines;
     }
 
@@ -37,6 +38,7 @@ code_state elements env spacing content lines =
       spacing = spacing;
       content = content;
       builder = new_builder [];
+      pieces = [];
       lines = lines;
     }
 
@@ -49,5 +51,22 @@ cell_state elements env spacing builder lines =
       spacing = spacing;
       content = [];
       builder = builder;
+      pieces = [];
+      lines = lines;
+    }
+
+abbrev pub within_image : Environment → Environment
+within_image env = record env { within = Image }
+
+-- in an image, by its pieces so far, and by what is built of a table round it
+abbrev pub image_state : List Begun → Environment → Spacing → BuilderView → List SpanView → List LineView → State
+image_state elements env spacing builder pieces lines =
+    record {
+      open_elements = elements;
+      environment = within_image env;
+      spacing = spacing;
+      content = [];
+      builder = builder;
+      pieces = pieces;
       lines = lines;
     }

@@ -12,7 +12,7 @@ use Rattle.md_table.specs.Sheet.{Sheet}
 use Rattle.md_text.specs.declared.environment.Environment.{Environment}
 use Rattle.md_text.specs.declared.environment.Spacing.{Spacing}
 use Rattle.md_text.specs.declared.environment.Fresh.TheVariants.{No}
-use Rattle.md_text.specs.declared.environment.Within.TheVariants.{Lines, Code, Cell}
+use Rattle.md_text.specs.declared.environment.Within.TheVariants.{Lines, Code, Cell, Image}
 use Rattle.md_text.specs.Alerts.{alert_of}
 use Rattle.md_text.specs.Markers.{marker_width, number_after}
 
@@ -60,8 +60,8 @@ with_task width inside = if begins_with_task inside then width + 4 else width
 
 -- inside an element with these nodes: quotes add a mark and set the line style, lists are one deeper and begin at their number,
 -- items have a width, footnotes and metadata set the line style, styled inlines, links, titles and descriptions patch the
--- inline style, leaves in a block of code or HTML are its content and those in a table its cells, in metadata a soft break
--- begins a line, and others leave all as it is
+-- inline style, leaves in a block of code or HTML are its content, those in a table its cells and those in an image its
+-- description, in metadata a soft break begins a line, and others leave all as it is
 abbrev pub environment_inside : Sheet → Environment → Tag → Nodes → Environment
 environment_inside sheet env (tag.BlockQuote kind) inside = record env { quotes = env.quotes + 1; line_style = quote_style sheet kind }
 environment_inside sheet env (tag.List start) inside = record env { depth = env.depth + 1; number = start }
@@ -72,6 +72,7 @@ environment_inside sheet env tag.Strikethrough inside = styled env (crossed_out 
 environment_inside sheet env tag.Superscript inside = styled env (italic (dim no_style))
 environment_inside sheet env tag.Subscript inside = styled env (italic (dim no_style))
 environment_inside sheet env (tag.Link dest) inside = styled env sheet.link
+environment_inside sheet env (tag.Image dest) inside = record (styled env sheet.image_alt) { within = Image }
 environment_inside sheet env (tag.CodeBlock kind) inside = record env { within = Code }
 environment_inside sheet env tag.HtmlBlock inside = record env { within = Code }
 environment_inside sheet env (tag.FootnoteDefinition label) inside = record env { line_style = sheet.footnote_def }

@@ -62,3 +62,7 @@ each_laid one spacing (x ∷ xs) = then_laid (one spacing x) (λ behind. each_la
 -- spans put one after another
 abbrev pub put_all : Spacing → List SpanView → Laid
 put_all spacing spans = each_laid put_laid spacing spans
+
+-- Join, and spans put one after another
+abbrev pub join_all : Environment → Spacing → List SpanView → Laid
+join_all env spacing spans = then_laid (join_laid env spacing) (λ joined. put_all joined spans)

@@ -7,22 +7,25 @@ use Rattle.md_tree.specs.Tree.{Nodes, Empty, Leaf, Branch}
 use Rattle.md_text.specs.declared.environment.Environment.{Environment}
 use Rattle.md_text.specs.declared.environment.Spacing.{Spacing}
 use Rattle.md_text.specs.Marks.{draws}
-use Rattle.md_text.specs.Laid.{Laid, nothing_laid, then_laid}
+use Rattle.md_text.specs.Laid.{Laid, nothing_laid, then_laid, join_all}
 use Rattle.md_text.specs.Look.{Look}
 use Rattle.md_text.specs.Environment.{first_environment, first_spacing, environment_inside, environment_after}
 use Rattle.md_text.specs.Texts.{texts}
 use Rattle.md_text.specs.Blocks.{enter, leave}
 use Rattle.md_text.specs.Inlines.{leaf}
 use Rattle.md_text.specs.Code.{code_block}
+use Rattle.md_text.specs.Flat.{flat, image_in}
 use Rattle.md_text.specs.Html.{html_block}
 use Rattle.md_text.specs.Tables.{table, table_of}
 
--- An element with these nodes: a block of code or HTML and a table are laid out as a whole, and of others, what stands before, in and
+-- An element with these nodes: a block of code or HTML, a table and an image are laid out as a whole, and of others, what stands before, in and
 -- behind them.
 abbrev pub branch : Look → Environment → Spacing → Tag → Nodes → (Spacing → Laid) → Laid
 branch look env spacing (tag.CodeBlock kind) nodes inside = code_block look env spacing kind (texts nodes)
 branch look env spacing tag.HtmlBlock nodes inside = html_block look.sheet env spacing (texts nodes)
-branch look env spacing (tag.Table alignments) nodes inside = table look env spacing (table_of look.sheet env alignments nodes)
+branch look env spacing (tag.Table alignments) nodes inside = table look env spacing (table_of look env alignments nodes)
+branch look env spacing (tag.Image dest) nodes inside =
+    join_all env spacing (image_in look env dest (flat look (environment_inside look.sheet env (tag.Image dest) nodes) nodes))
 branch look env spacing tag nodes inside =
     then_laid (enter look.sheet env spacing tag) (λ entered.
     then_laid (inside entered) (λ behind. leave look.sheet env behind tag))

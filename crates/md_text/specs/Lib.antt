@@ -14,6 +14,8 @@ pub mod Blocks
 pub mod Inlines
 pub mod Html
 pub mod Code
+pub mod Images
+pub mod Flat
 pub mod Tables
 pub mod Layout
 pub mod Pieces

@@ -20,6 +20,7 @@ use Rattle.md_text.specs.Spans.{piece, each_pieces, pieces_of}
 use Rattle.md_text.specs.Look.{Look}
 use Rattle.md_text.specs.Environment.{first_environment, environment_inside, environment_after}
 use Rattle.md_text.specs.Headings.{level_number, with_blank, attribute_suffix}
+use Rattle.md_text.specs.Flat.{flat, image_in}
 use Rattle.md_text.specs.Html.{html_environment}
 use Rattle.md_text.specs.Inlines.{display_math, inline_math, link_spans, math_environment, reference}
 use Rattle.md_text.specs.Notes.{label}
@@ -101,12 +102,14 @@ pieces_behind sheet tag.MetadataBlock = plain_span (codes "---") ∷ []
 pieces_behind sheet (tag.Link dest) = pieces_of (link_spans sheet dest)
 pieces_behind sheet _ = []
 
--- the pieces of an element with these nodes, those of the nodes being given: of a block of code or HTML and of a table as a
--- whole, and of others, what stands before, in and behind them
+-- the pieces of an element with these nodes, those of the nodes being given: of a block of code or HTML, of a table and of an
+-- image as a whole, and of others, what stands before, in and behind them
 abbrev pub branch_pieces : Look → Environment → Tag → Nodes → List SpanView → List SpanView
 branch_pieces look env (tag.CodeBlock kind) nodes inside = code_pieces look env kind (texts nodes)
 branch_pieces look env tag.HtmlBlock nodes inside = line_pieces (html_environment look.sheet env) (lines (texts nodes))
-branch_pieces look env (tag.Table alignments) nodes inside = table_pieces look env (table_of look.sheet env alignments nodes)
+branch_pieces look env (tag.Table alignments) nodes inside = table_pieces look env (table_of look env alignments nodes)
+branch_pieces look env (tag.Image dest) nodes inside =
+    pieces_of (image_in look env dest (flat look (environment_inside look.sheet env (tag.Image dest) nodes) nodes))
 branch_pieces look env tag nodes inside = pieces_before look.sheet env tag ++ (inside ++ pieces_behind look.sheet tag)
 
 -- the pieces of nodes, in order

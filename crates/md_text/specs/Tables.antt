@@ -1,87 +1,52 @@
 -- What tables lay out.
-use Rattle.std.specs.Prelude.{ℕ, ◌+◌, ◌-◌, ◌==◌, if◌then◌else◌, Bool, true, false, not, ◌&&◌, Option, None, Some, List, [], ◌∷◌, ◌++◌, codes}
+use Rattle.std.specs.Prelude.{ℕ, ◌+◌, ◌-◌, ◌==◌, if◌then◌else◌, Bool, true, false, not, ◌&&◌, Option, None, Some, List, [], ◌∷◌}
 use Rattle.term_text.specs.declared.alignment.Alignment.{Alignment}
-use Rattle.std.specs.Str.Lines.{lines}
-use Rattle.term_text.specs.declared.style.Style.{Style}
-use Rattle.term_text.specs.Style.{no_style, patch}
-use Rattle.term_text.specs.Text.{SpanView, LineView}
-use Rattle.md_tree.specs.declared.event.Event.{Event}
-use Rattle.md_tree.specs.declared.event.Event.TheVariants as event
-use Rattle.md_tree.specs.declared.event.Tag.{Tag}
+use Rattle.term_text.specs.Style.{no_style}
+use Rattle.term_text.specs.Text.{LineView}
 use Rattle.md_tree.specs.declared.event.Tag.TheVariants as tag
 use Rattle.md_tree.specs.Tree.{Nodes, Empty, Leaf, Branch}
 use Rattle.md_picture.specs.Picture.{TableView, picture}
 use Rattle.md_table.specs.Builder.{table_styles}
-use Rattle.md_table.specs.Sheet.{Sheet}
 use Rattle.md_text.specs.declared.environment.Environment.{Environment}
 use Rattle.md_text.specs.declared.environment.Spacing.{Spacing}
 use Rattle.md_text.specs.declared.environment.Fresh.{Fresh}
 use Rattle.md_text.specs.declared.environment.Fresh.TheVariants as fresh
-use Rattle.md_text.specs.Marks.{Pad, plain_span, styled_span}
+use Rattle.md_text.specs.Marks.{Pad}
 use Rattle.md_text.specs.Laid.{Laid, nothing_laid, then_laid, open_laid, join_laid, put_all, each_laid, with_due}
 use Rattle.md_text.specs.Look.{Look}
-use Rattle.md_text.specs.Spans.{piece, each_pieces, pieces_of}
 use Rattle.md_text.specs.Environment.{environment_inside}
-use Rattle.md_text.specs.Inlines.{display_math, inline_math, link_spans, reference}
+use Rattle.md_text.specs.Flat.{flat}
 
 -- ---- cells
 
--- each line is a piece
-abbrev pub flat_lines : Style → List (List ℕ) → List SpanView
-flat_lines style all = each_pieces (λ line. piece (styled_span line style)) all
-
--- A leaf in a cell: a text is one piece, whatever line ends it has, code is one in its own style, and a break is a blank.
-abbrev pub flat_leaf : Sheet → Environment → Event → List SpanView
-flat_leaf sheet env (event.Text bytes) = piece (styled_span bytes env.inline_style)
-flat_leaf sheet env (event.Code bytes) = piece (styled_span bytes sheet.code)
-flat_leaf sheet env (event.InlineHtml bytes) = piece (styled_span bytes (patch env.inline_style sheet.html))
-flat_leaf sheet env (event.InlineMath bytes) = piece (styled_span (inline_math bytes) (patch env.inline_style sheet.math_inline))
-flat_leaf sheet env (event.DisplayMath bytes) = flat_lines sheet.math_display (lines (display_math bytes))
-flat_leaf sheet env (event.FootnoteReference label) = piece (styled_span (reference label) (patch env.inline_style sheet.footnote_ref))
-flat_leaf sheet env event.SoftBreak = plain_span (codes " ") ∷ []
-flat_leaf sheet env event.HardBreak = plain_span (codes " ") ∷ []
-flat_leaf sheet env _ = []
-
--- behind the inlines in an element: a link's destination
-abbrev pub flat_behind : Sheet → Tag → List SpanView
-flat_behind sheet (tag.Link dest) = pieces_of (link_spans sheet dest)
-flat_behind sheet _ = []
-
--- the pieces of inlines in a cell, in order
-abbrev pub flat : Sheet → Environment → Nodes → List SpanView
-flat sheet env Empty = []
-flat sheet env (Leaf e rest) = flat_leaf sheet env e ++ flat sheet env rest
-flat sheet env (Branch tag inside rest) =
-    (flat sheet (environment_inside sheet env tag inside) inside ++ flat_behind sheet tag) ++ flat sheet env rest
-
-abbrev pub cell : Sheet → Environment → Nodes → LineView
-cell sheet env inside = record { spans = flat sheet env inside; style = no_style }
+abbrev pub cell : Look → Environment → Nodes → LineView
+cell look env inside = record { spans = flat look env inside; style = no_style }
 
 -- the cells in a head or row
-abbrev pub cells : Sheet → Environment → Nodes → List LineView
-cells sheet env Empty = []
-cells sheet env (Leaf e rest) = cells sheet env rest
-cells sheet env (Branch tag inside rest) = cell sheet env inside ∷ cells sheet env rest
+abbrev pub cells : Look → Environment → Nodes → List LineView
+cells look env Empty = []
+cells look env (Leaf e rest) = cells look env rest
+cells look env (Branch tag inside rest) = cell look env inside ∷ cells look env rest
 
 -- the cells of the head
-abbrev pub header : Sheet → Environment → Nodes → List LineView
-header sheet env Empty = []
-header sheet env (Leaf e rest) = header sheet env rest
-header sheet env (Branch tag.TableHead inside rest) = cells sheet env inside
-header sheet env (Branch tag inside rest) = header sheet env rest
+abbrev pub header : Look → Environment → Nodes → List LineView
+header look env Empty = []
+header look env (Leaf e rest) = header look env rest
+header look env (Branch tag.TableHead inside rest) = cells look env inside
+header look env (Branch tag inside rest) = header look env rest
 
 -- those of each row
-abbrev pub rows : Sheet → Environment → Nodes → List (List LineView)
-rows sheet env Empty = []
-rows sheet env (Leaf e rest) = rows sheet env rest
-rows sheet env (Branch tag.TableRow inside rest) = cells sheet env inside ∷ rows sheet env rest
-rows sheet env (Branch tag inside rest) = rows sheet env rest
+abbrev pub rows : Look → Environment → Nodes → List (List LineView)
+rows look env Empty = []
+rows look env (Leaf e rest) = rows look env rest
+rows look env (Branch tag.TableRow inside rest) = cells look env inside ∷ rows look env rest
+rows look env (Branch tag inside rest) = rows look env rest
 
 -- the table of an element with these nodes
-abbrev pub table_of : Sheet → Environment → List Alignment → Nodes → TableView
-table_of sheet env alignments inside =
-    let env_in = environment_inside sheet env (tag.Table alignments) inside in
-    record { alignments = alignments; header = header sheet env_in inside; rows = rows sheet env_in inside }
+abbrev pub table_of : Look → Environment → List Alignment → Nodes → TableView
+table_of look env alignments inside =
+    let env_in = environment_inside look.sheet env (tag.Table alignments) inside in
+    record { alignments = alignments; header = header look env_in inside; rows = rows look env_in inside }
 
 -- ---- lines
 

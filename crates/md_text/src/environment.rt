@@ -20,6 +20,8 @@ pub enum Within {
     Code,
     /// A table, to whose open cell they go.
     Cell,
+    /// An image, whose description they are.
+    Image,
 }
 
 /// What is handed down into elements, and never comes back from them.
@@ -105,6 +107,10 @@ impl Environment {
             Tag::Strikethrough => self.styled(Style::new().crossed_out()),
             Tag::Superscript | Tag::Subscript => self.styled(Style::new().dim().italic()),
             Tag::Link { .. } => self.styled(sheet.link()),
+            Tag::Image { .. } => Environment {
+                within: Within::Image,
+                ..self.styled(sheet.image_alt())
+            },
             Tag::FootnoteDefinition(_) => Environment {
                 line_style: sheet.footnote_def(),
                 ..self

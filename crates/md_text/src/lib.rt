@@ -22,5 +22,5 @@ mod text_tests;
 pub use error::RenderError;
 pub use highlight::{AnsiFence, Highlighter, NoHighlight};
 pub use md_table::{AlertKind, CustomSheet, DefaultStyleSheet, StyleSheet};
-pub use options::Options;
+pub use options::{ImageFallback, Options};
 pub use render::{from_events, from_str, from_str_with_options};

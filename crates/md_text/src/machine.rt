@@ -14,15 +14,17 @@ use term_text::{CowStr, Line, Span, Stack, Style, Text};
 mod blocks;
 mod code;
 mod containers;
+mod flat;
 mod headings;
 mod html;
+mod images;
 mod inlines;
 mod notes;
 mod tables;
 mod walk;
 
-/// The open elements, the environment and the spacing state here, what is known of the open block of code and table, and the
-/// lines so far.
+/// The open elements, the environment and the spacing state here, what is known of the open block of code, table and
+/// images, and the lines so far.
 #[derive(Drop)]
 pub struct Machine<'e, 'a> {
     alloc: Global,
@@ -33,6 +35,8 @@ pub struct Machine<'e, 'a> {
     content: String,
     // The open table so far.
     builder: TableBuilder<'a>,
+    // The pieces of the open images so far, with a place for the marker of each.
+    pieces: Vec<Span<'a>>,
     lines: Vec<Line<'a>>,
 }
 
@@ -42,7 +46,7 @@ impl<'e, 'a> Model for Machine<'e, 'a> {
 
     ghost Value = { State };
 
-    ghost view = { λ m. record { open_elements = m.frames; environment = m.environment; spacing = m.spacing; content = string_bytes m.content; builder = m.builder; lines = m.lines.items } };
+    ghost view = { λ m. record { open_elements = m.frames; environment = m.environment; spacing = m.spacing; content = string_bytes m.content; builder = m.builder; pieces = m.pieces.items; lines = m.lines.items } };
 }
 
 impl<'e, 'a> Machine<'e, 'a> {
@@ -57,6 +61,7 @@ impl<'e, 'a> Machine<'e, 'a> {
             spacing: Spacing::first(),
             content: String::new(alloc),
             builder: TableBuilder::new(alloc, Vec::new(alloc)),
+            pieces: Vec::new(alloc),
             lines: Vec::new(alloc),
         }
     }

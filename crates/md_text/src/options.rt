@@ -6,8 +6,30 @@ ghost use Rattle.md_text.specs.Options.{plain_options};
 use md_table::{DefaultStyleSheet, RowDividers, StyleSheet};
 use std::marker::Model;
 
-/// How a tree is laid out: its style sheet, the columns that tables are to fit in, if a width is set, and whether border
-/// lines stand between their rows.
+/// What is shown of an image behind its marker `[img]`.
+#[derive(Clone, Copy, Debug, PartialEq, Eq)]
+pub enum ImageFallback {
+    /// Its description, or its destination where it has none.
+    AltText,
+    /// Its destination.
+    Url,
+    /// Its description, and behind it its destination in parentheses; where one of them is empty, the other alone.
+    AltTextAndUrl,
+}
+
+impl Default for ImageFallback {
+    ghost use Rattle.std.specs.Prelude.{◌≡◌};
+    ghost use Rattle.md_text.specs.declared.options.ImageFallback.{ImageFallback};
+
+    ghost is_default = { λ f. f ≡ ImageFallback.AltText };
+
+    fn default() -> ImageFallback {
+        ImageFallback::AltText
+    }
+}
+
+/// How a tree is laid out: its style sheet, the columns that tables are to fit in, if a width is set, whether border lines
+/// stand between their rows, and what is shown of images.
 ///
 /// Without a width a table takes what its widest cells need; on a narrower page its lines are then wrapped as any line is,
 /// which breaks the picture. So set the page's width by `table_width` where tables are to be read.
@@ -16,6 +38,7 @@ pub struct Options<S: StyleSheet> {
     styles: S,
     table_width: Option<u16>,
     row_dividers: bool,
+    image_fallback: ImageFallback,
 }
 
 impl<S: StyleSheet> Model for Options<S> {
@@ -23,11 +46,12 @@ impl<S: StyleSheet> Model for Options<S> {
 
     ghost Value = { OptionsView S };
 
-    ghost view = { λ o. record { styles = o.styles; table_width = o.table_width; row_dividers = o.row_dividers } };
+    ghost view = { λ o. record { styles = o.styles; table_width = o.table_width; row_dividers = o.row_dividers; image_fallback = o.image_fallback } };
 }
 
 impl<S: StyleSheet> Options<S> {
-    /// Options with this style sheet, without a width for tables and without lines between their rows; takes no memory.
+    /// Options with this style sheet, without a width for tables and without lines between their rows, and with the
+    /// descriptions of images; takes no memory.
     pub fn new(styles: S) -> Options<S>
         ensures { result ≡ plain_options styles }
     {
@@ -35,6 +59,7 @@ impl<S: StyleSheet> Options<S> {
             styles,
             table_width: None,
             row_dividers: false,
+            image_fallback: ImageFallback::AltText,
         }
     }
 
@@ -57,6 +82,23 @@ impl<S: StyleSheet> Options<S> {
             row_dividers: enabled,
             ..self
         }
+    }
+
+    /// The same options with this shown of images; takes no memory.
+    pub fn image_fallback(self, image_fallback: ImageFallback) -> Options<S>
+        ensures { result ≡ record self { image_fallback = image_fallback } }
+    {
+        Options {
+            image_fallback,
+            ..self
+        }
+    }
+
+    /// What is shown of images.
+    pub(crate) fn fallback(&self) -> ImageFallback
+        ensures { result ≡ self.now.image_fallback }
+    {
+        self.image_fallback
     }
 
     /// The style sheet.

@@ -555,8 +555,8 @@ fn metadata_stands_at_the_start(rt: HostRuntime) -> Result<(), Fail> {
 fn some_forms_are_not_built(rt: HostRuntime) {
     assert!(rt; built("Hello, *world*! [a](b:c)\r\n---\n|1. > - :\r      \n\tc\n```"));
     assert!(rt; built("---\nNote: this\n: a\n- [x] : b\n\n---\n"));
-    assert!(rt; built("$$a$$ $b$ $"));
-    for text in ["<b", "![a", "[^a"] {
+    assert!(rt; built("$$a$$ $b$ $ ![a](b:c)"));
+    for text in ["<b", "[^a"] {
         assert!(rt; !built(text));
     }
 }

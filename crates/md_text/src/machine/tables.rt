@@ -2,23 +2,18 @@
 ghost use Rattle.std.specs.Prelude.{◌≡◌, ◌-◌, OnOk, IfOk};
 ghost use Rattle.md_text.specs.Laid.{each_laid, put_all};
 ghost use Rattle.md_text.specs.Look.{look_of, knows_nothing, as_it_is};
-ghost use Rattle.md_text.specs.Marks.{styled_span};
-ghost use Rattle.std.specs.Str.Lines.{lines};
-ghost use Rattle.md_text.specs.Spans.{piece};
-ghost use Rattle.md_text.specs.Inlines.{link_spans};
-ghost use Rattle.md_text.specs.Tables.{flat_leaf, flat_lines, in_item, quotes_width, room_for_table, table_picture, indent, begin_picture_line, picture_line, table};
-ghost use Rattle.md_text.specs.State.{with_spans, started_in_table, ended_in_table, laid};
+ghost use Rattle.md_text.specs.Tables.{in_item, quotes_width, room_for_table, table_picture, indent, begin_picture_line, picture_line, table};
+ghost use Rattle.md_text.specs.State.{started_in_table, ended_in_table, laid};
 
-use super::inlines::between;
 use super::{Machine, put_last};
 use crate::environment::{Environment, Fresh};
 use crate::marker::blanks;
 use crate::options::Options;
-use md_events::{Event, Tag};
+use md_events::Tag;
 use md_table::{StyleSheet, TableBuilder};
 use std::alloc::AllocError;
 use std::mem;
-use term_text::{CowStr, Line, Span, Style};
+use term_text::{CowStr, Line, Span};
 
 impl<'e, 'a> Machine<'e, 'a> {
     /// A table starts, or a cell.
@@ -38,13 +33,9 @@ impl<'e, 'a> Machine<'e, 'a> {
     }
 
     /// A part of a table ends.
-    pub(super) fn ended_in_table<S: StyleSheet>(
-        &mut self,
-        sheet: &S,
-        tag: &Tag<'a>,
-    ) -> Result<(), AllocError>
+    pub(super) fn ended_in_table(&mut self, tag: &Tag<'a>) -> Result<(), AllocError>
         ensures { OnOk result (self.new
-            ≡ record self.old { builder = ended_in_table (S.sheet sheet.now) self.old.builder tag.now }) }
+            ≡ record self.old { builder = ended_in_table self.old.builder tag.now }) }
     {
         match tag {
             Tag::TableCell => self.builder.finish_cell(),
@@ -53,92 +44,8 @@ impl<'e, 'a> Machine<'e, 'a> {
                 Ok(())
             }
             Tag::TableRow => self.builder.finish_row(),
-            Tag::Link { dest_url } => self.flat_link(sheet, dest_url),
             _ => Ok(()),
         }
-    }
-
-    /// A leaf goes to the open cell.
-    pub(super) fn flat_leaf<S: StyleSheet>(
-        &mut self,
-        sheet: &S,
-        leaf: &Event<'a>,
-    ) -> Result<(), AllocError>
-        ensures { OnOk result (self.new
-            ≡ record self.old { builder = with_spans self.old.builder (flat_leaf (S.sheet sheet.now) self.old.environment leaf.now) }) }
-    {
-        match leaf {
-            Event::Text(content) => self.flat_text(content, self.environment.inline_style),
-            Event::Code(content) => self.flat_text(content, sheet.code()),
-            Event::InlineHtml(content) => {
-                let style = self.environment.inline_style.patch(sheet.html());
-                self.flat_text(content, style)
-            }
-            Event::InlineMath(content) => {
-                let text = between(self.alloc, "$", content.as_str(), "$")?;
-                let style = self.environment.inline_style.patch(sheet.math_inline());
-                self.builder
-                    .push_span(Span::styled(CowStr::owned(text), style))
-            }
-            Event::DisplayMath(content) => {
-                let text = between(self.alloc, "$$", content.as_str(), "$$")?;
-                self.flat_lines(text.as_str(), sheet.math_display())
-            }
-            Event::FootnoteReference(label) => {
-                let text = between(self.alloc, "[", label.as_str(), "]")?;
-                let style = self.environment.inline_style.patch(sheet.footnote_ref());
-                self.builder
-                    .push_span(Span::styled(CowStr::owned(text), style))
-            }
-            Event::SoftBreak | Event::HardBreak => {
-                self.builder.push_span(Span::raw(CowStr::borrowed(" ")))
-            }
-            _ => Ok(()),
-        }
-    }
-
-    /// A text goes to the open cell in a style, and nothing for an empty one.
-    fn flat_text(&mut self, content: &CowStr<'a>, style: Style) -> Result<(), AllocError>
-        ensures { OnOk result (self.new
-            ≡ record self.old { builder = with_spans self.old.builder (piece (styled_span content.now style)) }) }
-    {
-        let text = content.try_clone(self.alloc)?;
-        self.push_piece(text, style)
-    }
-
-    fn push_piece(&mut self, text: CowStr<'a>, style: Style) -> Result<(), AllocError>
-        ensures { OnOk result (self.new
-            ≡ record self.old { builder = with_spans self.old.builder (piece (styled_span text.entry style)) }) }
-    {
-        self.builder.push_span(Span::styled(text, style))
-    }
-
-    /// Each line of a text goes to the open cell in a style.
-    fn flat_lines(&mut self, content: &str, style: Style) -> Result<(), AllocError>
-        ensures { OnOk result (self.new
-            ≡ record self.old { builder = with_spans self.old.builder (flat_lines style (lines content.now)) }) }
-    {
-        for line in content.lines() {
-            let owned = String::from_str(self.alloc, line)?;
-            self.push_piece(CowStr::owned(owned), style)?;
-        }
-        Ok(())
-    }
-
-    /// A link's destination in parentheses goes to the open cell.
-    fn flat_link<S: StyleSheet>(
-        &mut self,
-        sheet: &S,
-        dest_url: &CowStr<'a>,
-    ) -> Result<(), AllocError>
-        ensures { OnOk result (self.new
-            ≡ record self.old { builder = with_spans self.old.builder (link_spans (S.sheet sheet.now) dest_url.now) }) }
-    {
-        let destination = dest_url.try_clone(self.alloc)?;
-        let builder = &mut self.builder;
-        builder.push_span(Span::raw(CowStr::borrowed(" (")))?;
-        builder.push_span(Span::styled(destination, sheet.link()))?;
-        builder.push_span(Span::raw(CowStr::borrowed(")")))
     }
 
     /// The table that was built: the lines of its picture.
@@ -198,7 +105,7 @@ impl<'e, 'a> Machine<'e, 'a> {
     }
 
     /// Adds spans to the last line.
-    fn put_all(&mut self, spans: Vec<Span<'a>>) -> Result<(), AllocError>
+    pub(super) fn put_all(&mut self, spans: Vec<Span<'a>>) -> Result<(), AllocError>
         ensures { OnOk result (self.new ≡ laid self.old (put_all self.old.spacing spans.entry.items)) }
     {
         for span in spans {

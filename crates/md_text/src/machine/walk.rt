@@ -55,19 +55,21 @@ impl<'e, 'a> Machine<'e, 'a> {
         self.frames.push(Frame {
             tag,
             environment: self.environment,
+            start: self.pieces.len(),
         })?;
+        self.keep_place(tag)?;
         self.environment = self.environment.inside(self.alloc, sheet, tag)?;
         Ok(())
     }
 
-    /// A leaf is laid out, is content of the open block of code, or goes to the open cell.
+    /// A leaf is laid out, is content of the open block of code, or goes to the open cell or image.
     fn leaf_step<S: StyleSheet>(&mut self, sheet: &S, leaf: &Event<'a>) -> Result<(), AllocError>
         ensures { OnOk result (self.new ≡ leaf_step (S.sheet sheet.now) self.old leaf.now) }
     {
         match self.environment.within {
             Within::Lines => self.leaf(sheet, leaf)?,
             Within::Code => self.keep(leaf)?,
-            Within::Cell => self.flat_leaf(sheet, leaf)?,
+            Within::Cell | Within::Image => self.flat_leaf(sheet, leaf)?,
         }
         self.environment = self.environment.behind(leaf)?;
         Ok(())
@@ -96,12 +98,15 @@ impl<'e, 'a> Machine<'e, 'a> {
             None => Ok(()),
             Some(frame) => {
                 self.environment = frame.environment.restored(frame.tag, self.environment);
-                self.ended_within(options, highlighter, frame.tag)
+                match frame.tag {
+                    Tag::Image { dest_url } => self.image_end(options, frame.start, dest_url),
+                    tag => self.ended_within(options, highlighter, tag),
+                }
             }
         }
     }
 
-    /// An element ends in a table, or elsewhere.
+    /// An element ends in a table, in an image, or elsewhere.
     fn ended_within<S: StyleSheet, H: Highlighter>(
         &mut self,
         options: &Options<S>,
@@ -111,9 +116,13 @@ impl<'e, 'a> Machine<'e, 'a> {
         ensures { OnOk result (self.new
             ≡ ended_within self.old.environment.within (look_of options.now S.sheet (H.known highlighter.now) (H.answer highlighter.now)) self.old tag.now) }
     {
-        match self.environment.within {
-            Within::Cell => self.ended_in_table(options.styles(), tag),
-            Within::Lines | Within::Code => self.left(options, highlighter, tag),
+        match (self.environment.within, tag) {
+            (Within::Cell | Within::Image, Tag::Link { dest_url }) => {
+                self.flat_link(options.styles(), dest_url)
+            }
+            (Within::Cell, _) => self.ended_in_table(tag),
+            (Within::Image, _) => Ok(()),
+            (Within::Lines | Within::Code, _) => self.left(options, highlighter, tag),
         }
     }
 

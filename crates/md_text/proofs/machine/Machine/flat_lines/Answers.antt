@@ -5,7 +5,7 @@ use Rattle.std.proofs.lemmas.Iterator.Consumers.{YieldsList-turn, YieldsList-end
 use Rattle.std.specs.Str.Lines.{lines}
 use Rattle.md_text.specs.Marks.{styled_span}
 use Rattle.md_text.specs.Spans.{piece}
-use Rattle.md_text.specs.State.{State, with_spans}
+use Rattle.md_text.specs.State.{State, kept}
 use Rattle.md_text.proofs.FlatLines.{rest_flat, rest_flat-line, rest_flat-end}
 use Rattle.md_text.proofs.machine.Machine.flat_lines.Goals as goal
 
@@ -15,7 +15,7 @@ loop-line-preserved c =
     let style = c.args.style in
     let t = YieldsList-turn (YieldsList-from_lines c.args.content.now cc) c.loop-line.yielded _ c.loop-line.yielded_by _ _ c.in-Some.line c.in-Some.is c.next.ensures.steps in
     ap (λ (s : State). rest_flat style s (drop (length (c.loop-line.yielded ++ c.in-Some.line ∷ [])) all)) (c.in_ok-push_piece.ensures
-    ∙ ap (λ (line : List ℕ). record c.loop-line.self { builder = with_spans c.loop-line.self.builder (piece (styled_span line style)) }) (c.owned.ensures ∙ c.in_ok-owned.ensures.ok))
+    ∙ ap (λ (line : List ℕ). kept c.loop-line.self.environment.within c.loop-line.self (piece (styled_span line style))) (c.owned.ensures ∙ c.in_ok-owned.ensures.ok))
     ∙ rest_flat-line style c.loop-line.self all (length c.loop-line.yielded) _ c.in-Some.line.now t (length_push _ _)
     ∙ c.loop-line.invariant
 
