@@ -52,13 +52,22 @@ fn write_source<'a>(
 fn joined(alloc: Global, lines: &[Line]) -> Result<String, AllocError>
     ensures { IfOk result (λ text. string_bytes text ≡ join_with_byte 10 (map body_of lines.now)) }
 {
-    let mut text = String::new(alloc);
+    let mut text = String::with_capacity(alloc, joined_length(lines))?;
     let mut at = 0;
     while at < lines.len() {
         push_line(&lines[at], at + 1 == lines.len(), &mut text)?;
         at += 1;
     }
     Ok(text)
+}
+
+/// How many bytes the bodies and their line ends are, or the greatest `usize` where they are more.
+fn joined_length(lines: &[Line]) -> usize {
+    let mut length = 0usize;
+    for line in lines {
+        length = length.saturating_add(line.body.len()).saturating_add(1);
+    }
+    length
 }
 
 /// Appends the body of a line, and LF if it is not the last.

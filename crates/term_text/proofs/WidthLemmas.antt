@@ -1,66 +1,82 @@
--- The columns of graphemes that begin with printable bytes or plain characters.
-use Rattle.std.proofs.Common.{◌≡◌, ◌↔◌, ℕ, zero, suc, ◌+◌, ◌<◌, ◌≤◌, max, List, [], ◌∷◌, ◌++◌, map, length, drop, refl, sym, ap, subst, arith}
+-- The columns of spans and lines.
+use Rattle.std.proofs.Common.{◌≡◌, ◌↔◌, ℕ, ◌+◌, ◌<◌, ◌≤◌, Bool, true, false, cond, min, max, List, [], ◌∷◌, ◌++◌, map, length, drop, get_or, refl, sym, ap, ◌∙◌, arith}
+use Rattle.std.proofs.lemmas.List.Sums.{sum_by-append}
+use Rattle.unicode_segmentation.specs.Grapheme.{graphemes}
 use Rattle.term_text.specs.declared.style.Style.{Style}
-use Rattle.term_text.specs.declared.graphs.Graphemes.{Graphemes}
-use Rattle.term_text.specs.declared.line_graphs.LineGraphemes.{LineGraphemes}
-use Rattle.term_text.specs.Graph.{Grapheme, visible, columns, widest}
-use Rattle.term_text.specs.Iter.{stretch_left, pieces_left, plain_left, graphs_left}
-use Rattle.term_text.specs.LineIter.{line_left}
-use Rattle.term_text.specs.Plain.{byte_grapheme}
-use Rattle.term_text.specs.Solid.{AreSolid}
+use Rattle.term_text.specs.Graph.{Grapheme, is_visible, grapheme_of, width_of, visible, pieces_of, span_graphs, spans_graphs, columns, widest}
+use Rattle.term_text.specs.Plain.{IsPrintable, byte_grapheme}
+use Rattle.term_text.specs.Style.{patch}
+use Rattle.term_text.specs.Text.{SpanView}
 use Rattle.term_text.specs.Wrap.{NoneWider}
 use Rattle.term_text.proofs.CutLemmas.{columns-cons}
+use Rattle.term_text.proofs.LineLemmas.{spans_graphs-drop}
+use Rattle.term_text.proofs.PlainLemmas.{columns-printable, visible-printable}
 use Rattle.term_text.proofs.WrapLemmas.{Narrow, Narrow-from, NoneWider-from}
-use Rattle.term_text.proofs.LineLemmas.{line_left-stretch}
 
--- ---- printable bytes in front
+-- ---- printable ASCII
 
-columns-stretch : (style : Style) (bs : List ℕ) (rest : List Grapheme)
-    → columns (map (byte_grapheme style) bs ++ rest) ≡ length bs + columns (drop (length bs) (map (byte_grapheme style) bs ++ rest))
-columns-stretch style [] rest = omega arith
-columns-stretch style (b ∷ bs) rest =
-    omega (arith, columns-cons (byte_grapheme style b) (map (byte_grapheme style) bs ++ rest), columns-stretch style bs rest)
+columns-printable_text : (style : Style) (text : List ℕ) → IsPrintable text → columns (visible style (graphemes true text)) ≡ length text
+columns-printable_text style text h = ap columns (visible-printable style text h) ∙ columns-printable style text
 
-pub columns-graphs_left : (s : Graphemes) → columns (graphs_left s) ≡ length (stretch_left s) + columns (drop (length (stretch_left s)) (graphs_left s))
-unfolding graphs_left
-columns-graphs_left s = columns-stretch s.style (stretch_left s) (plain_left s ++ visible s.style (pieces_left s))
-
-pub columns-line_left : (s : LineGraphemes)
-    → columns (line_left s) ≡ length (stretch_left s.current) + columns (drop (length (stretch_left s.current)) (line_left s))
-columns-line_left s =
-    let parts = line_left-stretch s in
-    let P : List Grapheme → Type 0 = λ gs. columns gs ≡ length (stretch_left s.current) + columns (drop (length (stretch_left s.current)) gs) in
-    subst P (sym parts.1) (columns-stretch s.current.style (stretch_left s.current) parts.0)
-
-widest-stretch : (style : Style) (bs : List ℕ) (rest : List Grapheme) → 0 < length bs
-    → widest (map (byte_grapheme style) bs ++ rest) ≡ max 1 (widest (drop (length bs) (map (byte_grapheme style) bs ++ rest)))
+widest-printable : (style : Style) (bs : List ℕ) → widest (map (byte_grapheme style) bs) ≡ min (length bs) 1
 unfolding widest
-widest-stretch style [] rest some = absurd (omega arith)
-widest-stretch style (b ∷ []) rest some = refl
-widest-stretch style (b ∷ c ∷ bs) rest some = let more = widest-stretch style (c ∷ bs) rest (omega arith) in omega arith
+widest-printable style [] = refl
+widest-printable style (b ∷ []) = refl
+widest-printable style (b ∷ c ∷ bs) = let more = widest-printable style (c ∷ bs) in omega arith
 
--- printable bytes are one column wide
-pub widest-line_left : (s : LineGraphemes) → 0 < length (stretch_left s.current)
-    → widest (line_left s) ≡ max 1 (widest (drop (length (stretch_left s.current)) (line_left s)))
-widest-line_left s some =
-    let parts = line_left-stretch s in
-    let P : List Grapheme → Type 0 = λ gs. widest gs ≡ max 1 (widest (drop (length (stretch_left s.current)) gs)) in
-    subst P (sym parts.1) (widest-stretch s.current.style (stretch_left s.current) parts.0 some)
+-- a span of printable ASCII has as many columns as bytes
+pub columns-printable_span : (span : SpanView) → IsPrintable span.text → span.is_glyph ≡ false → columns (visible span.style (pieces_of span)) ≡ length span.text
+columns-printable_span span h one =
+    ap (λ b. columns (visible span.style (cond b (span.text ∷ []) (graphemes true span.text)))) one ∙ columns-printable_text span.style span.text h
 
--- ---- plain characters in front, none of them a space
+-- each of them one column wide
+pub widest-printable_span : (span : SpanView) → IsPrintable span.text → span.is_glyph ≡ false → widest (visible span.style (pieces_of span)) ≡ min (length span.text) 1
+widest-printable_span span h one =
+    ap (λ b. widest (visible span.style (cond b (span.text ∷ []) (graphemes true span.text)))) one
+    ∙ ap widest (visible-printable span.style span.text h) ∙ widest-printable span.style span.text
 
-pub columns-solid : (n : ℕ) (gs rest : List Grapheme) → AreSolid n gs rest → columns gs ≡ n + columns rest
-unfolding AreSolid
-columns-solid zero gs rest h = omega (arith, ap columns h)
-columns-solid (suc n) [] rest h = absurd h
-columns-solid (suc n) (g ∷ gs) rest h = omega (arith, columns-cons g gs, h.0, columns-solid n gs rest h.2)
+-- ---- the spans of a line
 
-pub widest-solid : (n : ℕ) (gs rest : List Grapheme) → 0 < n → AreSolid n gs rest → widest gs ≡ max 1 (widest rest)
-unfolding AreSolid widest
-widest-solid zero gs rest some h = absurd (omega arith)
-widest-solid (suc n) [] rest some h = absurd h
-widest-solid (suc zero) (g ∷ gs) rest some h = omega (arith, h.0, ap widest h.2)
-widest-solid (suc (suc n)) (g ∷ gs) rest some h = let more = widest-solid (suc n) gs rest (omega arith) h.2 in omega (arith, h.0)
+-- in any style pieces are as wide
+columns-visible : (a b : Style) (pieces : List (List ℕ)) → columns (visible a pieces) ≡ columns (visible b pieces)
+unfolding visible
+columns-visible a b [] = refl
+columns-visible a b (piece ∷ pieces) = go (is_visible piece) (columns-visible a b pieces)
+  where
+    go : (v : Bool) → columns (visible a pieces) ≡ columns (visible b pieces)
+        → columns (cond v (grapheme_of a piece ∷ visible a pieces) (visible a pieces)) ≡ columns (cond v (grapheme_of b piece ∷ visible b pieces) (visible b pieces))
+    go true e = columns-cons (grapheme_of a piece) (visible a pieces) ∙ ap (λ n. width_of piece + n) e ∙ sym (columns-cons (grapheme_of b piece) (visible b pieces))
+    go false e = e
+
+widest-visible : (a b : Style) (pieces : List (List ℕ)) → widest (visible a pieces) ≡ widest (visible b pieces)
+unfolding visible widest
+widest-visible a b [] = refl
+widest-visible a b (piece ∷ pieces) = go (is_visible piece) (widest-visible a b pieces)
+  where
+    go : (v : Bool) → widest (visible a pieces) ≡ widest (visible b pieces)
+        → widest (cond v (grapheme_of a piece ∷ visible a pieces) (visible a pieces)) ≡ widest (cond v (grapheme_of b piece ∷ visible b pieces) (visible b pieces))
+    go true e = ap (max (width_of piece)) e
+    go false e = e
+
+widest-append : (gs hs : List Grapheme) → widest (gs ++ hs) ≡ max (widest gs) (widest hs)
+unfolding widest
+widest-append [] hs = omega arith
+widest-append (g ∷ gs) hs = let more = widest-append gs hs in omega arith
+
+-- the spans from the k-th on are as wide as that one and those behind it
+pub columns-spans : (under : Style) (spans : List SpanView) (k : ℕ) (span : SpanView) → k < length spans → span ≡ get_or spans k span
+    → columns (spans_graphs under (drop k spans)) ≡ columns (visible span.style (pieces_of span)) + columns (spans_graphs under (drop (k + 1) spans))
+columns-spans under spans k span lt is =
+    let rest : List Grapheme = spans_graphs under (drop (k + 1) spans) in
+    ap columns (spans_graphs-drop under spans k span lt is) ∙ sum_by-append (λ (g : Grapheme). g.width) (span_graphs under span) rest
+    ∙ ap (λ n. n + columns rest) (columns-visible (patch under span.style) span.style (pieces_of span))
+
+pub widest-spans : (under : Style) (spans : List SpanView) (k : ℕ) (span : SpanView) → k < length spans → span ≡ get_or spans k span
+    → widest (spans_graphs under (drop k spans)) ≡ max (widest (visible span.style (pieces_of span))) (widest (spans_graphs under (drop (k + 1) spans)))
+widest-spans under spans k span lt is =
+    let rest : List Grapheme = spans_graphs under (drop (k + 1) spans) in
+    ap widest (spans_graphs-drop under spans k span lt is) ∙ widest-append (span_graphs under span) rest
+    ∙ ap (λ n. max n (widest rest)) (widest-visible (patch under span.style) span.style (pieces_of span))
 
 -- ---- any graphemes
 

@@ -84,6 +84,30 @@ fn wide_characters_need_their_room(rt: HostRuntime) -> Result<(), Fail> {
 }
 
 #[test]
+fn a_span_has_columns_and_a_widest_grapheme(rt: HostRuntime) -> Result<(), Fail> {
+    let rows = [
+        ("", 0, 0),
+        ("abc", 3, 1),
+        ("a\tb", 2, 1),
+        ("é漢b", 4, 2),
+        ("e\u{301}", 1, 1),
+        ("👨\u{200d}👩\u{200d}👧!", 3, 2),
+    ];
+    for (text, columns, widest) in rows {
+        let span = Span::raw(CowStr::borrowed(text));
+        assert_eq!(rt; span.extent(), Extent { columns, widest }, "{text:?}");
+        assert_eq!(rt; span.width(), columns, "{text:?}");
+    }
+    let glyph = Span::glyph(CowStr::borrowed("abc"), Style::new());
+    let whole = Extent {
+        columns: 3,
+        widest: 3,
+    };
+    assert_eq!(rt; glyph.extent(), whole);
+    Ok(())
+}
+
+#[test]
 fn a_glyph_is_one_grapheme(rt: HostRuntime) -> Result<(), Fail> {
     let red = Style::new().red();
     let glyph = Span::glyph(CowStr::borrowed("abc"), red);
