@@ -5,7 +5,7 @@ use Rattle.std.specs.Prelude.{◌⊎◌, Option, Some, None, IfSome, IsSomeAnd}
 use Rattle.std.specs.Io.KnownBytes.{Consumes, Appends, IsAtEnd}
 use Rattle.ends.specs.Causes.{Rose, NoFault}
 use Rattle.programs.specs.declared.status.Status.{Status}
-use Rattle.programs.specs.declared.status.Status.TheVariants.{Done, Usage, ReadFault, TooLong, NotUtf8, TooNarrow, WriteFault, Memory, Unbuilt}
+use Rattle.programs.specs.declared.status.Status.TheVariants.{Done, Usage, ReadFault, TooLong, NotUtf8, TooNarrow, WriteFault, Memory}
 use Rattle.programs.specs.Status.{code_of}
 use Rattle.programs.specs.Reading.{Change, limit}
 use Rattle.programs.specs.Writing.{WroteSome}
@@ -94,7 +94,6 @@ module _ (r w : Change) (unread untouched : Type 0) where
   few TooNarrow taken got h short = absurd h
   few WriteFault taken got h short = inl (omega (arith, length-append taken got, ap length h.1, short))
   few Memory taken got h short = inl h.0
-  few Unbuilt taken got h short = absurd h
 
   pub only_too_long_says : (o : Option ℕ) (status : Status) → Runs o status → (unread → r.new ≡ r.old)
       → IfSome r.old (λ bytes. IfSome r.new (λ rest. length bytes ≡ length rest + (limit + 1) → status ≡ TooLong))
@@ -140,11 +139,11 @@ module _ (r w : Change) (unread untouched : Type 0) where
             (fed.0, subst (λ n. WroteSome w (shown n h.taken)) same wrote),
       )
 
-  pub never_says : (o : Option ℕ) (status : Status) → Runs o status → (status ≡ TooNarrow → ⊥) × (status ≡ Unbuilt → ⊥)
+  pub never_says : (o : Option ℕ) (status : Status) → Runs o status → status ≡ TooNarrow → ⊥
   never_says None status h =
-      (λ e. absurd (omega (arith, apart Usage TooNarrow (sym h.0 ∙ e))), λ e. absurd (omega (arith, apart Usage Unbuilt (sym h.0 ∙ e))))
+      λ e. absurd (omega (arith, apart Usage TooNarrow (sym h.0 ∙ e)))
   never_says (Some bound) status h =
-      (λ e. subst (λ s. HasFed s r h.taken h.got) e h.fed, λ e. subst (λ s. HasFed s r h.taken h.got) e h.fed)
+      λ e. subst (λ s. HasFed s r h.taken h.got) e h.fed
 
   pub untouched_says : (o : Option ℕ) (status : Status) → Runs o status → (status ≡ Done → ⊥) → (status ≡ WriteFault → ⊥) → untouched
   untouched_says None status h done fault = h.2
@@ -159,7 +158,6 @@ module _ (r w : Change) (unread untouched : Type 0) where
       each TooNarrow output k done fault = k
       each WriteFault output k done fault = absurd (fault refl)
       each Memory output k done fault = k
-      each Unbuilt output k done fault = k
 
   -- what a run over a source of few bytes and lines of text ends with
   complete_by : (status : Status) (taken got output : List ℕ) → HasFed status r taken got → HasWritten status w output untouched
@@ -172,7 +170,6 @@ module _ (r w : Change) (unread untouched : Type 0) where
   complete_by TooNarrow taken got output h k short good rf wf = absurd h
   complete_by WriteFault taken got output h k short good rf wf = absurd (wf k.cause)
   complete_by Memory taken got output h k short good rf wf = inr refl
-  complete_by Unbuilt taken got output h k short good rf wf = absurd h
 
   pub complete_says : (o : Option ℕ) (status : Status) → Runs o status → (bound : ℕ) → o ≡ Some bound
       → IsSomeAnd r.old (λ bytes. (length bytes ≤ limit) × (is_text (log_lines bytes) ≡ true))

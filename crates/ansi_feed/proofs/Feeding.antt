@@ -4,7 +4,7 @@ use Rattle.std.specs.Prelude.{Option}
 use Rattle.std.specs.Io.KnownBytes.{Consumes}
 use Rattle.ends.specs.Causes.{Rose, NoFault}
 use Rattle.programs.specs.declared.status.Status.{Status}
-use Rattle.programs.specs.declared.status.Status.TheVariants.{Done, Usage, ReadFault, TooLong, NotUtf8, TooNarrow, WriteFault, Memory, Unbuilt}
+use Rattle.programs.specs.declared.status.Status.TheVariants.{Done, Usage, ReadFault, TooLong, NotUtf8, TooNarrow, WriteFault, Memory}
 use Rattle.programs.specs.Reading.{Change, limit}
 use Rattle.programs.proofs.Transfers.{consumes_more, consumes_nothing}
 use Rattle.ansi_text.specs.Ansi.{is_text}
@@ -150,4 +150,3 @@ fed_stop bound status old middle new before then now feed count on step = record
     go Usage got h = h
     go TooNarrow got h = h
     go WriteFault got h = h
-    go Unbuilt got h = h

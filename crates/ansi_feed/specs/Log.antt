@@ -4,7 +4,7 @@ use Rattle.std.specs.Prelude.{◌≡◌, ℕ, ◌+◌, ◌≤◌, List, [], ◌+
 use Rattle.std.specs.Io.KnownBytes.{Consumes, IsAtEnd}
 use Rattle.ends.specs.Causes.{Rose, NoFault}
 use Rattle.programs.specs.declared.status.Status.{Status}
-use Rattle.programs.specs.declared.status.Status.TheVariants.{Done, Usage, ReadFault, TooLong, NotUtf8, TooNarrow, WriteFault, Memory, Unbuilt}
+use Rattle.programs.specs.declared.status.Status.TheVariants.{Done, Usage, ReadFault, TooLong, NotUtf8, TooNarrow, WriteFault, Memory}
 use Rattle.programs.specs.Reading.{Change, limit}
 use Rattle.programs.specs.Ran.{HasWritten}
 use Rattle.ansi_text.specs.Ansi.{is_text}
@@ -29,7 +29,6 @@ HasFed NotUtf8 r taken got = (length (taken ++ got) ≤ limit) × FedBad r taken
 HasFed TooNarrow r taken got = ⊥
 HasFed WriteFault r taken got = FedToEnd r taken got
 HasFed Memory r taken got = (length (taken ++ got) ≤ limit) × NoFault r.before r.now
-HasFed Unbuilt r taken got = ⊥
 
 -- what was taken of a source: no more than the limit before the last call, and each line that ended in it is UTF-8
 pub record Taken (r : Change) (taken got : List ℕ) : Type 0 where
@@ -67,7 +66,6 @@ StopsFeed Done r taken got = ⊥
 StopsFeed Usage r taken got = ⊥
 StopsFeed TooNarrow r taken got = ⊥
 StopsFeed WriteFault r taken got = ⊥
-StopsFeed Unbuilt r taken got = ⊥
 
 pub record Stopped (status : Status) (r : Change) : Type 0 where
   pub taken : List ℕ
@@ -96,7 +94,6 @@ WhyStep Done r feed count got = ⊥
 WhyStep Usage r feed count got = ⊥
 WhyStep TooNarrow r feed count got = ⊥
 WhyStep WriteFault r feed count got = ⊥
-WhyStep Unbuilt r feed count got = ⊥
 
 pub record StopsStep (status : Status) (r : Change) (feed : FeedView) (count : ℕ) : Type 0 where
   pub got : List ℕ

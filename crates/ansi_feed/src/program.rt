@@ -123,7 +123,7 @@ pub fn run_plain<R: Source, W: Sink>(
         → Rose (W.faults sink.old) (W.faults sink.new)
         × IfSome (R.left source.old) (λ bytes. IsAtEnd (R.left source.new)
         × WroteSome (change_of W.written W.faults sink.old sink.new) (shown bound bytes)) }
-    ensures never { (result ≡ Status.TooNarrow → ⊥) × (result ≡ Status.Unbuilt → ⊥) }
+    ensures never { result ≡ Status.TooNarrow → ⊥ }
     ensures untouched { (result ≡ Status.Done → ⊥) → (result ≡ Status.WriteFault → ⊥) → sink.new ≡ sink.old }
     ensures complete { (bound : ℕ) → bound_of (map string_bytes words.now) ≡ Some bound
         → IsSomeAnd (R.left source.old) (λ bytes. (length bytes ≤ limit) × (is_text (log_lines bytes) ≡ true))

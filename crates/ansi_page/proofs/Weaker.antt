@@ -3,7 +3,7 @@ use Rattle.std.proofs.Common.{◌≡◌, ℕ, List, true, false, sym, ◌∙◌,
 use Rattle.std.specs.Prelude.{Option, Some, None, IfSome}
 use Rattle.std.specs.Io.KnownBytes.{Appends, IsAtEnd}
 use Rattle.programs.specs.declared.status.Status.{Status}
-use Rattle.programs.specs.declared.status.Status.TheVariants.{Done, Usage, ReadFault, TooLong, NotUtf8, TooNarrow, WriteFault, Memory, Unbuilt}
+use Rattle.programs.specs.declared.status.Status.TheVariants.{Done, Usage, ReadFault, TooLong, NotUtf8, TooNarrow, WriteFault, Memory}
 use Rattle.programs.specs.Reading.{Change, TookAll}
 use Rattle.programs.specs.Ran.{HasRead, Shows, Ran}
 use Rattle.md_words.specs.declared.job.Job.{Job}
@@ -22,7 +22,6 @@ cause-weaker job NotUtf8 text h = h
 cause-weaker job TooNarrow text h = h
 cause-weaker job WriteFault text h = h
 cause-weaker job Memory text h = h
-cause-weaker job Unbuilt text h = h
 
 read-weaker : (job : Job) (status : Status) (r : Change) (taken : List ℕ) → HasRead (ColoredCause job) status r taken → HasRead (Cause job) status r taken
 read-weaker job Done r taken h = (h.0, h.1.0)
@@ -33,7 +32,6 @@ read-weaker job NotUtf8 r taken h = (h.0, cause-weaker job NotUtf8 taken h.1)
 read-weaker job TooNarrow r taken h = (h.0, cause-weaker job TooNarrow taken h.1)
 read-weaker job WriteFault r taken h = (h.0, h.1.0)
 read-weaker job Memory r taken h = h
-read-weaker job Unbuilt r taken h = (h.0, cause-weaker job Unbuilt taken h.1)
 
 pub ran-weaker : (o : Option Job) (status : Status) (r w : Change) (unread untouched : Type 0)
     → Ran ColoredCause colored o status r w unread untouched → Ran Cause colored o status r w unread untouched
@@ -54,5 +52,4 @@ pub no_view_shows : (job : Job) (why : NoView) (r w : Change) (taken : List ℕ)
 no_view_shows job no.Memory r w taken untouched read cause same =
     record { taken = taken; took = read.took; read = (omega (arith, read.short), read.no_fault); wrote = same }
 no_view_shows job no.NotUtf8 r w taken untouched read cause same = record { taken = taken; took = read.took; read = (read, cause); wrote = same }
-no_view_shows job no.Unbuilt r w taken untouched read cause same = record { taken = taken; took = read.took; read = (read, cause); wrote = same }
 no_view_shows job no.TooNarrow r w taken untouched read cause same = record { taken = taken; took = read.took; read = (read, cause); wrote = same }

@@ -5,10 +5,10 @@ use Rattle.term_core.specs.Cells.{view}
 use Rattle.term_ansi.specs.Printed.{rows_text}
 use Rattle.term_ansi.specs.Clean.{HasOwnControls}
 use Rattle.programs.specs.declared.status.Status.{Status}
-use Rattle.programs.specs.declared.status.Status.TheVariants.{Done, NotUtf8, TooNarrow, Unbuilt}
+use Rattle.programs.specs.declared.status.Status.TheVariants.{Done, NotUtf8, TooNarrow}
 use Rattle.md_words.specs.declared.job.Job.{Job}
 use Rattle.md_words.specs.Words.{job_of}
-use Rattle.md_page.specs.Shown.{IsShowable, IsNarrow, IsUnbuilt, has_no_cell, shown_rows}
+use Rattle.md_page.specs.Shown.{IsShowable, IsNarrow, has_no_cell, shown_rows}
 
 -- a job whose view has a cell
 abbrev pub some_cells : Job → Option Job
@@ -27,5 +27,4 @@ abbrev pub ColoredCause : Job → Status → List ℕ → Type 0
 ColoredCause job Done text = IsShowable job text × HasOwnControls (colored job text)
 ColoredCause job NotUtf8 text = IsUtf8 text → ⊥
 ColoredCause job TooNarrow text = IsNarrow job text
-ColoredCause job Unbuilt text = IsUnbuilt text
 ColoredCause job _ text = ⊤

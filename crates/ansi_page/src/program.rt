@@ -6,7 +6,7 @@ ghost use Rattle.md_words.specs.declared.job.Job.{Job};
 ghost use Rattle.programs.specs.Reading.{change_of, limit};
 ghost use Rattle.programs.specs.Ran.{Ran, Shows};
 ghost use Rattle.programs.specs.Writing.{WroteSome};
-ghost use Rattle.md_page.specs.Shown.{IsShowable, IsNarrow, IsUnbuilt};
+ghost use Rattle.md_page.specs.Shown.{IsShowable, IsNarrow};
 ghost use Rattle.ansi_page.specs.Colored.{ColoredCause, colored, job_with_cells};
 ghost use Rattle.term_ansi.specs.Clean.{HasOwnControls};
 
@@ -66,7 +66,7 @@ fn run_words<R: Source, W: Sink>(
 ///
 /// It reads the source to its end, at most 16,777,216 bytes, draws the view that `run` of `md_page` prints, and writes it by
 /// `print_ansi`, without the number of rows. The statuses come in the order: `Usage`; `ReadFault` or `TooLong`, whichever
-/// call came first; `NotUtf8`; `Unbuilt`; `TooNarrow`; `WriteFault`. `Memory` may stand in place of any of them before the
+/// call came first; `NotUtf8`; `TooNarrow`; `WriteFault`. `Memory` may stand in place of any of them before the
 /// first write. A drawn view has no symbol that cannot be printed, so there is no status for one.
 pub fn run_ansi<R: Source, W: Sink>(
     alloc: Global,
@@ -104,8 +104,6 @@ pub fn run_ansi<R: Source, W: Sink>(
         length bytes ≡ length rest + (limit + 1) → (result ≡ Status.TooLong) ⊎ (result ≡ Status.Memory))) }
     ensures not_utf8 { result ≡ Status.NotUtf8
         → IfSome (R.left source.old) (λ bytes. IsAtEnd (R.left source.new) × (IsUtf8 bytes → ⊥)) }
-    ensures unbuilt { result ≡ Status.Unbuilt
-        → IfSome (R.left source.old) (λ bytes. IsAtEnd (R.left source.new) × IsUnbuilt bytes) }
     ensures too_narrow { (job : Job) → job_with_cells (map string_bytes words.now) ≡ Some job → result ≡ Status.TooNarrow
         → IfSome (R.left source.old) (λ bytes. IsAtEnd (R.left source.new) × IsNarrow job bytes) }
     ensures write_fault { (job : Job) → job_with_cells (map string_bytes words.now) ≡ Some job → result ≡ Status.WriteFault

@@ -35,9 +35,7 @@ fn drawn(alloc: Global, text: &str, width: u16, height: u16) -> Result<Buffer, V
     let look = Options::new(sheet).table_width(width);
     let area = Rect::new(0, 0, width, height);
     let mut buf = Buffer::empty(alloc, area).map_err(|_| ViewError::Memory)?;
-    if built(text) {
-        render_view(alloc, text.as_bytes(), &look, &Keywords, area, 0, &mut buf)?;
-    }
+    render_view(alloc, text.as_bytes(), &look, &Keywords, area, 0, &mut buf)?;
     Ok(buf)
 }
 

@@ -7,7 +7,7 @@ pub use ansi_feed::{Feed, FeedError};
 pub use ansi_text::{AnsiCode, IntoText, bytes_into_text, bytes_to_text, line_into_text};
 pub use md_events::{
     Alignments, Attrs, BlockQuoteKind, Classes, CodeBlockKind, Event, HeadingLevel, Tag, TagEnd,
-    built, read, well_formed,
+    read, well_formed,
 };
 pub use md_page::{ViewError, render_view};
 pub use md_table::{RowDividers, TableBuilder};

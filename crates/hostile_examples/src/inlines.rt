@@ -14,7 +14,7 @@ fn openers_and_closers_without_a_partner_are_text(rt: HostRuntime) -> Result<(),
     ];
     for part in parts {
         let text = times(alloc, part, COUNT)?;
-        assert_eq!(rt; event_count(&rt, alloc, text.as_str())?, 3, "{part}");
+        assert_eq!(rt; event_count(alloc, text.as_str())?, 3, "{part}");
     }
     Ok(())
 }
@@ -24,7 +24,7 @@ fn brackets_without_a_partner_are_text(rt: HostRuntime) -> Result<(), Fail> {
     let alloc = rt.alloc();
     for part in ["[", "]", "[a](", "](", "[a](b "] {
         let text = times(alloc, part, COUNT)?;
-        assert_eq!(rt; event_count(&rt, alloc, text.as_str())?, 3, "{part}");
+        assert_eq!(rt; event_count(alloc, text.as_str())?, 3, "{part}");
     }
     Ok(())
 }
@@ -35,7 +35,7 @@ fn brackets_in_brackets_are_text(rt: HostRuntime) -> Result<(), Fail> {
     let mut text = times(alloc, "[", COUNT)?;
     text.push_str("a")?;
     text.push_str(times(alloc, "]", COUNT)?.as_str())?;
-    assert_eq!(rt; event_count(&rt, alloc, text.as_str())?, 3);
+    assert_eq!(rt; event_count(alloc, text.as_str())?, 3);
     Ok(())
 }
 
@@ -49,6 +49,19 @@ fn runs_of_backticks_of_many_lengths_are_text(rt: HostRuntime) -> Result<(), Fai
         text.push_str("a")?;
         text.push_str(run.as_str())?;
     }
-    assert_eq!(rt; event_count(&rt, alloc, text.as_str())?, 3);
+    assert_eq!(rt; event_count(alloc, text.as_str())?, 3);
+    Ok(())
+}
+
+#[test]
+fn dollars_and_angle_brackets_without_a_partner_are_text(rt: HostRuntime) -> Result<(), Fail> {
+    let alloc = rt.alloc();
+    let parts = [
+        " $a", "$$$$", "<a ", "<http:", "a</", "[^ ", "![", "a <!-- ",
+    ];
+    for part in parts {
+        let text = times(alloc, part, COUNT)?;
+        assert_eq!(rt; event_count(alloc, text.as_str())?, 3, "{part}");
+    }
     Ok(())
 }

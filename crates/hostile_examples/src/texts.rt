@@ -1,8 +1,6 @@
 //! Long texts, and how many events they have.
-use md_events::{built, read};
+use md_events::read;
 use std::alloc::{AllocError, Global};
-use std::process::Abort;
-use std::test::Fail;
 
 /// A part, so many times.
 pub(crate) fn times(alloc: Global, part: &str, count: usize) -> Result<String, AllocError> {
@@ -13,9 +11,8 @@ pub(crate) fn times(alloc: Global, part: &str, count: usize) -> Result<String, A
     Ok(text)
 }
 
-/// How many events a text has, which is built.
-pub(crate) fn event_count(rt: &impl Abort, alloc: Global, text: &str) -> Result<usize, Fail> {
-    assert!(rt; built(text));
+/// How many events a text has.
+pub(crate) fn event_count(alloc: Global, text: &str) -> Result<usize, AllocError> {
     let events = read(alloc, text)?;
     Ok(events.len())
 }

@@ -1,4 +1,4 @@
--- What the writers of quotes, lists and items keep.
+-- What the writers of quotes, footnote definitions, lists and items keep.
 use Rattle.std.proofs.Common.{List, [], ◌∷◌, ◌++◌, length, drop, take, get_or, ◌≡◌, ◌≤◌, ◌<◌, ◌+◌, ◌-◌, ℕ, zero, suc, refl, sym, ap, ◌∙◌, arith, Bool, true, false, cond, not, Option, Some, None, append-nil}
 use Rattle.std.specs.Option.{is_some}
 use Rattle.std.proofs.lemmas.Bool.{false≢true}
@@ -13,11 +13,12 @@ use Rattle.md_tree.specs.Tree.{Nodes, Empty, Branch, events, has_number}
 use Rattle.md_lines.specs.Lines.{LineText, is_empty}
 use Rattle.md_rules.specs.declared.item.Marker.{Marker}
 use Rattle.md_rules.specs.Quotes.{first_alert, quoted, quotes, unquoted, without_kind}
+use Rattle.md_rules.specs.Footnotes.{footnote_lines, footnote_more}
 use Rattle.md_rules.specs.Items.{item_column, item_line, item_lines, item_more, task_of}
 use Rattle.md_rules.specs.Lists.{is_loose, next_item}
 use Rattle.md_rules.proofs.Slices.{drop-drop}
 use Rattle.md_events.specs.Node.{block_events}
-use Rattle.md_events.specs.Containers.{in_item, inside_quote, item_then, items, list_lines, with_task}
+use Rattle.md_events.specs.Containers.{footnote, in_item, inside_quote, item_then, items, list_lines, with_task}
 use Rattle.md_events.specs.Blocks.{blocks}
 use Rattle.md_events.specs.Written.{begins_quote, first_list, first_marker, first_quote}
 use Rattle.md_events.proofs.Steps.{branch-turn, element-written}
@@ -48,6 +49,11 @@ quoted-within (line ∷ later) = go (quotes line) (quoted-within later)
 
 pub quote-within : (n : ℕ) (lines inner : List LineText) → begins_quote lines ≡ true → inner ≡ quoted lines → length inner - 1 < length lines
 quote-within n lines inner b e = omega (arith, ap length e, quoted-within lines, quote-lines n lines inner b e)
+
+pub footnote-written : (n : ℕ) (label : List ℕ) (line : LineText) (later inside : List LineText) (more : ℕ) (old new : List Event) → more ≡ footnote_more later → inside ≡ footnote_lines label line (take more later) → new ≡ ((old ++ Start (tag.FootnoteDefinition label) ∷ []) ++ events (blocks n false inside)) ++ End end.FootnoteDefinition ∷ [] → new ≡ old ++ block_events false (footnote (blocks n) label line later)
+footnote-written n label line later inside more old new m i w =
+    element-written (tag.FootnoteDefinition label) end.FootnoteDefinition (blocks n false inside) old new refl w
+    ∙ ap (λ ls. old ++ events (Branch (tag.FootnoteDefinition label) (blocks n false ls) Empty)) (i ∙ ap (λ k. footnote_lines label line (take k later)) m)
 
 is_some-number : (number : Option ℕ) → is_some number ≡ has_number number
 is_some-number None = refl

@@ -1,7 +1,6 @@
 -- The blocks of lines are good.
 use Rattle.std.proofs.Common.{List, [], ◌∷◌, ◌≡◌, ◌≤◌, ◌<◌, ◌+◌, ◌-◌, ◌^◌, ◌==◌, length, ℕ, zero, suc, refl, sym, arith, true, false, Bool, cond, not, ◌&&◌, map, drop, take, Option, None, Some}
 use Rattle.std.proofs.lemmas.Bool.{eqb-true, false≢true}
-use Rattle.md_tree.specs.declared.event.Event.TheVariants as event
 use Rattle.md_tree.specs.declared.event.Tag.TheVariants as tag
 use Rattle.md_tree.specs.declared.place.Holds.{Holds}
 use Rattle.md_tree.specs.declared.place.Holds.TheVariants as level
@@ -18,7 +17,9 @@ use Rattle.md_inline.proofs.GoodInlines.{inlines-good}
 use Rattle.md_rules.specs.declared.item.Marker.{Marker}
 use Rattle.md_rules.specs.Code.{hanging, text_from}
 use Rattle.md_rules.specs.Fences.{fenced}
+use Rattle.md_rules.specs.Footnotes.{footnote_label, footnote_lines, footnote_more}
 use Rattle.md_rules.specs.Headings.{heading_at}
+use Rattle.md_rules.specs.Html.{html_more}
 use Rattle.md_rules.specs.Items.{item_column, item_line, item_lines, item_more, marker_of, task_of}
 use Rattle.md_rules.specs.Lists.{is_loose, next_item}
 use Rattle.md_rules.specs.Quotes.{first_alert, quoted}
@@ -27,12 +28,14 @@ use Rattle.md_rules.specs.declared.entry.Entry.{Entry}
 use Rattle.md_rules.specs.declared.entry.Entry.TheVariants.{Title, Description}
 use Rattle.md_rules.specs.Definitions.{description_lines, title_of}
 use Rattle.md_rules.specs.Entries.{entry_more, next_entry}
-use Rattle.md_rules.proofs.Filled.{filled, filled-description, filled-drop, filled-first, filled-item, filled-later, filled-lines_of, filled-quoted, filled-take, filled-without_kind}
+use Rattle.md_rules.proofs.Filled.{filled, filled-description, filled-drop, filled-first, filled-footnote, filled-item, filled-later, filled-lines_of, filled-quoted, filled-take, filled-without_kind}
 use Rattle.md_rules.specs.declared.start.Items.TheVariants.{All}
 use Rattle.md_rules.proofs.ItemLemmas.{marker-small}
 use Rattle.md_rules.proofs.StartLemmas.{each-start, item_start-marker}
 use Rattle.md_events.specs.Node.{Node, Run, node_then}
-use Rattle.md_events.specs.CodeBlocks.{code_lines, text_then}
+use Rattle.md_events.specs.declared.kept.Kept.{Kept}
+use Rattle.md_events.specs.declared.kept.Kept.TheVariants.{Html, Text}
+use Rattle.md_events.specs.Kept.{kept_lines, kept_then, leaf_of}
 use Rattle.md_events.specs.Containers.{in_item, inside_quote, item_then, items, list_lines}
 use Rattle.md_events.specs.Definitions.{entries, entry_tag, entry_then, in_entry, in_title}
 use Rattle.md_rules.specs.Metadata.{metadata_in, metadata_lines}
@@ -59,15 +62,26 @@ ReadsGood read = (h : Holds) (tight : Bool) → MayRead h tight → (lines : Lis
 abbrev KeepsGood : Holds → Bool → Node → Type 0
 KeepsGood h tight node = (rest : Nodes) → good_at (level_of h) rest ≡ true → good_at (level_of h) (node_then tight node rest) ≡ true
 
-text_then-good : (text : List ℕ) (rest : Nodes) → good_at (level_of level.CodeTexts) rest ≡ true → good_at (level_of level.CodeTexts) (text_then text rest) ≡ true
-text_then-good [] rest good = good
-text_then-good (b ∷ bs) rest good = good
+-- what holds lines that are kept so
+abbrev holder : Kept → Holds
+holder Text = level.CodeTexts
+holder Html = level.HtmlTexts
 
-code_lines-good : (column : ℕ) (lines : List LineText) → good_at (level_of level.CodeTexts) (code_lines column lines) ≡ true
-unfolding code_lines
-code_lines-good column [] = refl
-code_lines-good column (line ∷ lines) =
-    text_then-good (text_from column line) (nodes.Leaf (event.Text (10 ∷ [])) (code_lines column lines)) (code_lines-good column lines)
+kept_then-good : (k : Kept) (text : List ℕ) (rest : Nodes) → good_at (level_of (holder k)) rest ≡ true → good_at (level_of (holder k)) (kept_then k text rest) ≡ true
+kept_then-good k [] rest good = good
+kept_then-good Text (b ∷ bs) rest good = good
+kept_then-good Html (b ∷ bs) rest good = good
+
+line_end-good : (k : Kept) (rest : Nodes) → good_at (level_of (holder k)) rest ≡ true → good_at (level_of (holder k)) (nodes.Leaf (leaf_of k (10 ∷ [])) rest) ≡ true
+line_end-good Text rest good = good
+line_end-good Html rest good = good
+
+kept_lines-good : (k : Kept) (column : ℕ) (lines : List LineText) → good_at (level_of (holder k)) (kept_lines k column lines) ≡ true
+unfolding kept_lines
+kept_lines-good Text column [] = refl
+kept_lines-good Html column [] = refl
+kept_lines-good k column (line ∷ lines) =
+    kept_then-good k (text_from column line) (nodes.Leaf (leaf_of k (10 ∷ [])) (kept_lines k column lines)) (line_end-good k (kept_lines k column lines) (kept_lines-good k column lines))
 
 cell_nodes-good : (texts : List (List ℕ)) → good_at (level_of level.Cells) (cell_nodes texts) ≡ true
 cell_nodes-good [] = refl
@@ -200,15 +214,21 @@ block-good h tight nests read may stands good line later small =
       thematic_break = λ c f e rest g. and_both (holds_blocks h) _ stands g;
       heading = λ level c f b e rest g. three (holds_blocks h) _ _ stands (inlines-good ((heading_at level line).content.body ∷ [])) g;
       quote = λ text n q rest g. three (holds_blocks h) _ _ stands (quote_inside (quoted (line ∷ later)) (omega (arith, filled-quoted (line ∷ later)))) g;
-      item = λ marker text n q e rest g. three (holds_blocks h) _ _ stands
+      footnote = λ label text n q e rest g. three (holds_blocks h) _ _ stands (footnote_inside label e) g;
+      item = λ marker text n q f e rest g. three (holds_blocks h) _ _ stands
           (items-good read good (not (is_loose (take (list_lines marker line later) later))) marker.kind 0 (line ∷ later) (numbers_from marker.number) (first-fits line marker (filled (line ∷ later)) (item_start-marker All line marker e) small) small) g;
-      table = λ text none e rest g. three (holds_blocks h) _ _ stands (and_both _ _ (cell_nodes-good (cells line)) (row_nodes-good (rows nests later))) g;
-      definitions = λ text none t e rest g. three (holds_blocks h) _ _ stands (definitions-good read good line later small) g;
-      paragraph = λ text none t e. run-good h tight may stands (map body_of (line ∷ take (paragraph_more nests later) later));
+      html = λ end text none e rest g. three (holds_blocks h) _ _ stands (kept_lines-good Html 0 (line ∷ take (html_more end line later) later)) g;
+      table = λ text none w e rest g. three (holds_blocks h) _ _ stands (and_both _ _ (cell_nodes-good (cells line)) (row_nodes-good (rows nests later))) g;
+      definitions = λ text none w t e rest g. three (holds_blocks h) _ _ stands (definitions-good read good line later small) g;
+      paragraph = λ text none w t e. run-good h tight may stands (map body_of (line ∷ take (paragraph_more nests later) later));
     })
   where
-    code : (column : ℕ) (lines : List LineText) (rest : Nodes) → good_at (level_of h) rest ≡ true → (holds_blocks h && (good_at (level_of level.CodeTexts) (code_lines column lines) && good_at (level_of h) rest)) ≡ true
-    code column lines = λ rest g. three (holds_blocks h) _ _ stands (code_lines-good column lines) g
+    code : (column : ℕ) (lines : List LineText) (rest : Nodes) → good_at (level_of h) rest ≡ true → (holds_blocks h && (good_at (level_of level.CodeTexts) (kept_lines Text column lines) && good_at (level_of h) rest)) ≡ true
+    code column lines = λ rest g. three (holds_blocks h) _ _ stands (kept_lines-good Text column lines) g
+
+    footnote_inside : (label : List ℕ) → footnote_label line ≡ Some label → good_at (level_of level.Blocks) (read false (footnote_lines label line (take (footnote_more later) later))) ≡ true
+    footnote_inside label e =
+        good level.Blocks false refl (footnote_lines label line (take (footnote_more later) later)) (omega (arith, filled-footnote label line (footnote_more later) later e))
 
     quote_inside : (lines : List LineText) → filled lines ≤ most → good_at (level_of level.Blocks) (read false (inside_quote lines)) ≡ true
     quote_inside lines le = good level.Blocks false refl (inside_quote lines) (omega (arith, filled-without_kind (first_alert lines) lines))
@@ -250,7 +270,7 @@ unfolding blocks
 blocks-good zero = λ h tight may lines small. blocks_after-good h tight false (λ t ls. Empty) may (may-stand h tight may) (may-end h tight may) empty-good 0 lines small
 blocks-good (suc n) = λ h tight may lines small. blocks_after-good h tight true (λ t ls. blocks n t ls) may (may-stand h tight may) (may-end h tight may) (blocks-good n) 0 lines small
 
-metadata_text-good : (text : List ℕ) (rest : Nodes) → good_at (level_of level.MetadataTexts) rest ≡ true → good_at (level_of level.MetadataTexts) (text_then text rest) ≡ true
+metadata_text-good : (text : List ℕ) (rest : Nodes) → good_at (level_of level.MetadataTexts) rest ≡ true → good_at (level_of level.MetadataTexts) (kept_then Text text rest) ≡ true
 metadata_text-good [] rest good = good
 metadata_text-good (b ∷ bs) rest good = good
 

@@ -1,5 +1,5 @@
 pub mod Steps
-pub mod CodeSteps
+pub mod KeptSteps
 pub mod MetadataSteps
 pub mod RuleSteps
 pub mod TableSteps

@@ -11,21 +11,22 @@ use Rattle.md_tree.proofs.Nodes.{events_then-events}
 use Rattle.md_lines.specs.Lines.{LineText}
 use Rattle.md_rules.specs.Code.{text_from}
 use Rattle.md_rules.specs.Metadata.{metadata_in, metadata_lines}
-use Rattle.md_events.specs.CodeBlocks.{text_then}
+use Rattle.md_events.specs.declared.kept.Kept.TheVariants.{Text}
+use Rattle.md_events.specs.Kept.{kept_then}
 use Rattle.md_events.specs.Blocks.{blocks, document}
 use Rattle.md_events.specs.Metadata.{further_texts, metadata_texts, metadata_then}
-use Rattle.md_events.proofs.CodeSteps.{events-text_then}
+use Rattle.md_events.proofs.KeptSteps.{events-kept_then}
 use Rattle.md_events.proofs.Steps.{element-written}
 
-further-line : (line : LineText) (rest : List LineText) → events (further_texts (line ∷ rest)) ≡ event.SoftBreak ∷ (events (text_then (text_from 0 line) Empty) ++ events (further_texts rest))
+further-line : (line : LineText) (rest : List LineText) → events (further_texts (line ∷ rest)) ≡ event.SoftBreak ∷ (events (kept_then Text (text_from 0 line) Empty) ++ events (further_texts rest))
 unfolding further_texts
-further-line line rest = ap (λ x. event.SoftBreak ∷ x) (events-text_then (text_from 0 line) (further_texts rest))
+further-line line rest = ap (λ x. event.SoftBreak ∷ x) (events-kept_then Text (text_from 0 line) (further_texts rest))
 
 -- one line more is written
-pub further-turn : (lines : List LineText) (at : ℕ) (line : LineText) (old out mid new : List Event) → at < length lines → line ≡ get_or lines at line → mid ≡ out ++ event.SoftBreak ∷ [] → new ≡ mid ++ events (text_then (text_from 0 line) Empty) → out ++ events (further_texts (drop at lines)) ≡ old → new ++ events (further_texts (drop (at + 1) lines)) ≡ old
+pub further-turn : (lines : List LineText) (at : ℕ) (line : LineText) (old out mid new : List Event) → at < length lines → line ≡ get_or lines at line → mid ≡ out ++ event.SoftBreak ∷ [] → new ≡ mid ++ events (kept_then Text (text_from 0 line) Empty) → out ++ events (further_texts (drop at lines)) ≡ old → new ++ events (further_texts (drop (at + 1) lines)) ≡ old
 further-turn lines at line old out mid new lt e b w h =
     let rest : List LineText = drop (at + 1) lines in
-    let text : List Event = events (text_then (text_from 0 line) Empty) in
+    let text : List Event = events (kept_then Text (text_from 0 line) Empty) in
     let others : List Event = events (further_texts rest) in
     let here : drop at lines ≡ line ∷ rest = drop_more lines at line lt ∙ ap (λ l. l ∷ rest) (sym e) in
     ap (λ x. x ++ others) (w ∙ ap (λ x. x ++ text) b)
@@ -40,11 +41,11 @@ further-end lines at old out le h =
     sym (append-nil out) ∙ (ap (λ x. out ++ events (further_texts x)) (sym none) ∙ h)
 
 -- the first line of content and the further ones
-pub texts-written : (line : LineText) (lines further : List LineText) (old out : List Event) → lines ≡ line ∷ further → out ≡ old ++ events (text_then (text_from 0 line) Empty) → out ++ events (further_texts further) ≡ old ++ events (metadata_texts lines)
+pub texts-written : (line : LineText) (lines further : List LineText) (old out : List Event) → lines ≡ line ∷ further → out ≡ old ++ events (kept_then Text (text_from 0 line) Empty) → out ++ events (further_texts further) ≡ old ++ events (metadata_texts lines)
 texts-written line lines further old out e w =
     ap (λ x. x ++ events (further_texts further)) w
-    ∙ (append_assoc old (events (text_then (text_from 0 line) Empty)) (events (further_texts further))
-    ∙ ap (λ x. old ++ x) (sym (ap (λ x. events (metadata_texts x)) e ∙ events-text_then (text_from 0 line) (further_texts further))))
+    ∙ (append_assoc old (events (kept_then Text (text_from 0 line) Empty)) (events (further_texts further))
+    ∙ ap (λ x. old ++ x) (sym (ap (λ x. events (metadata_texts x)) e ∙ events-kept_then Text (text_from 0 line) (further_texts further))))
 
 -- what the writer of metadata ensures
 pub metadata-written : (lines inside : List LineText) (n : ℕ) (old new : List Event) → metadata_in lines ≡ Some n → inside ≡ take n (drop 1 lines) → new ≡ ((old ++ event.Start MetadataBlock ∷ []) ++ events (metadata_texts inside)) ++ event.End end.MetadataBlock ∷ [] → new ≡ old ++ events (metadata_then (metadata_in lines) lines Empty)

@@ -6,9 +6,11 @@ use Rattle.md_rules.specs.declared.item.Marker.{Marker}
 use Rattle.md_rules.specs.declared.start.BlockStart.{BlockStart}
 use Rattle.md_rules.specs.declared.start.BlockStart.TheVariants as start
 use Rattle.md_rules.specs.declared.start.Items.TheVariants.{All}
+use Rattle.md_rules.specs.Footnotes.{footnote_label}
 use Rattle.md_rules.specs.Starts.{block_start}
-use Rattle.md_rules.proofs.StartLemmas.{start-definitions, start-marker, start-quote}
+use Rattle.md_rules.proofs.StartLemmas.{start-definitions, start-footnote, start-marker, start-quote}
 use Rattle.md_events.specs.Node.{block_events}
+use Rattle.md_events.specs.Containers.{footnote}
 use Rattle.md_events.specs.Definitions.{definitions}
 use Rattle.md_events.specs.Blocks.{block_by, blocks}
 use Rattle.md_events.specs.Written.{begins_quote, first_block, first_list, first_marker, first_quote, nests, reader}
@@ -38,6 +40,15 @@ quote-is n lines line later nested l v e =
     let same : reader n ≡ blocks (n - 1) = reader-some n (sym v ∙ found.0) in (
       ap begins_quote l ∙ found.1,
       block-is n lines line later nested start.Quote l v e ∙ (ap (λ r. block_by (nests n) r line later start.Quote) same ∙ ap (first_quote (n - 1)) (sym l)),
+      nests-some n nested v found.0,
+    )
+
+pub footnote-is : (n : ℕ) (lines : List LineText) (line : LineText) (later : List LineText) (nested : Bool) (l : List ℕ) → lines ≡ line ∷ later → nested ≡ nests n → block_start nested All line later ≡ start.Footnote l → (footnote_label line ≡ Some l) × (first_block n lines ≡ footnote (blocks (n - 1)) l line later) × (0 < n)
+footnote-is n lines line later nested l s v e =
+    let found = start-footnote nested All line later l e in
+    let same : reader n ≡ blocks (n - 1) = reader-some n (sym v ∙ found.0) in (
+      found.1,
+      block-is n lines line later nested (start.Footnote l) s v e ∙ ap (λ r. block_by (nests n) r line later (start.Footnote l)) same,
       nests-some n nested v found.0,
     )
 

@@ -8,6 +8,8 @@ use Rattle.md_rules.specs.declared.item.Marker.{Marker}
 use Rattle.md_rules.specs.declared.start.Items.TheVariants.{All}
 use Rattle.md_rules.specs.Code.{hanging, if_more}
 use Rattle.md_rules.specs.Fences.{fenced}
+use Rattle.md_rules.specs.Html.{ends_before, ends_with, html_more, html_rest}
+use Rattle.md_rules.specs.declared.html.HtmlEnd.{HtmlEnd}
 use Rattle.md_rules.specs.Items.{item_more}
 use Rattle.md_rules.specs.declared.entry.Entry.{Entry}
 use Rattle.md_rules.specs.declared.entry.Entry.TheVariants.{Title, Description}
@@ -81,6 +83,23 @@ paragraph_more-within nests (line ∷ lines) = go (is_empty line || interrupts n
     go true le = omega arith
     go false le = omega arith
 
+html_rest-within : (end : HtmlEnd) (lines : List LineText) → html_rest end lines ≤ length lines
+unfolding html_rest
+html_rest-within end [] = omega arith
+html_rest-within end (line ∷ lines) = go (ends_before end line) (ends_with end line) (html_rest-within end lines)
+  where
+    go : (v w : Bool) → html_rest end lines ≤ length lines → cond v 0 (cond w 1 (suc (html_rest end lines))) ≤ suc (length lines)
+    go true w le = omega arith
+    go false true le = omega arith
+    go false false le = omega arith
+
+html_more-within : (end : HtmlEnd) (line : LineText) (later : List LineText) → html_more end line later ≤ length later
+html_more-within end line later = go (ends_with end line) (html_rest-within end later)
+  where
+    go : (v : Bool) → html_rest end later ≤ length later → cond v 0 (html_rest end later) ≤ length later
+    go true le = omega arith
+    go false le = le
+
 table-within : (nests : Bool) (line : LineText) (later : List LineText) → starts_table line later ≡ true → suc (row_count nests (drop 1 later)) ≤ length later
 table-within nests line [] e = let some = starts-some line [] e in absurd (omega (arith, some))
 table-within nests line (next ∷ rest) e = let rows = row_count-within nests rest in omega (arith, rows)
@@ -95,10 +114,12 @@ block-within nests read line later =
       thematic_break = λ c f e. omega arith;
       heading = λ level c f b e. omega arith;
       quote = λ text n q. quoted-within later;
-      item = λ marker text n q e. list_more-within marker.kind (item_more marker line later) later (hanging-within _ later);
-      table = λ text none e. table-within nests line later e;
-      definitions = λ text none t e. entries_more-within 0 later (omega arith);
-      paragraph = λ text none t e. paragraph_more-within nests later;
+      footnote = λ label text n q e. hanging-within 4 later;
+      item = λ marker text n q f e. list_more-within marker.kind (item_more marker line later) later (hanging-within _ later);
+      html = λ end text none e. html_more-within end line later;
+      table = λ text none w e. table-within nests line later e;
+      definitions = λ text none w t e. entries_more-within 0 later (omega arith);
+      paragraph = λ text none w t e. paragraph_more-within nests later;
     })
 
 -- one block and those behind it

@@ -14,7 +14,8 @@ use Rattle.md_rules.specs.Metadata.{metadata_in, metadata_lines}
 use Rattle.md_rules.specs.Starts.{block_start, interrupts}
 use Rattle.md_events.specs.Node.{Block, Element, Node, Run, Single, node_then, one_line}
 use Rattle.md_events.specs.CodeBlocks.{fence_block, indented}
-use Rattle.md_events.specs.Containers.{list, quote}
+use Rattle.md_events.specs.Containers.{footnote, list, quote}
+use Rattle.md_events.specs.HtmlBlocks.{html_block}
 use Rattle.md_events.specs.Tables.{table}
 use Rattle.md_events.specs.Metadata.{metadata_then}
 use Rattle.md_events.specs.Definitions.{definitions}
@@ -40,7 +41,9 @@ block_by nests read line later (start.Fence fence) = fence_block fence later
 block_by nests read line later start.ThematicBreak = one_line (Single event.Rule)
 block_by nests read line later (start.Heading level) = one_line (heading_node (heading_at level line))
 block_by nests read line later start.Quote = quote read line later
+block_by nests read line later (start.Footnote label) = footnote read label line later
 block_by nests read line later (start.Item marker) = list read marker line later
+block_by nests read line later (start.Html end) = html_block end line later
 block_by nests read line later start.Table = table nests line later
 block_by nests read line later start.Definitions = definitions read line later
 block_by nests read line later start.Paragraph = paragraph nests line later

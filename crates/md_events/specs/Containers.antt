@@ -1,4 +1,4 @@
--- Blocks that hold blocks: quotes and lists.
+-- Blocks that hold blocks: quotes, footnote definitions and lists.
 use Rattle.std.specs.Prelude.{ℕ, zero, suc, Bool, true, false, not, Option, None, Some, List, [], ◌∷◌, length, take, if◌then◌else◌}
 use Rattle.md_tree.specs.declared.event.Event.TheVariants as event
 use Rattle.md_tree.specs.declared.event.Tag.TheVariants as tag
@@ -6,6 +6,7 @@ use Rattle.md_tree.specs.Tree.{Nodes, Empty, Leaf, Branch}
 use Rattle.md_lines.specs.Lines.{LineText, is_empty}
 use Rattle.md_rules.specs.declared.item.Marker.{Marker}
 use Rattle.md_rules.specs.Quotes.{first_alert, quoted, without_kind}
+use Rattle.md_rules.specs.Footnotes.{footnote_lines, footnote_more}
 use Rattle.md_rules.specs.Items.{item_column, item_line, item_lines, item_more, task_of}
 use Rattle.md_rules.specs.Lists.{is_loose, list_more, next_item}
 use Rattle.md_events.specs.Node.{Block, Element}
@@ -23,6 +24,14 @@ quote read line later =
     record {
       node = Element (tag.BlockQuote (first_alert (quoted (line ∷ later)))) (read false (inside_quote (quoted (line ∷ later))));
       more = length (quoted later);
+    }
+
+-- a footnote definition takes its line and those that hang below it with an indent of at least 4
+abbrev pub footnote : (Bool → List LineText → Nodes) → List ℕ → LineText → List LineText → Block
+footnote read label line later =
+    record {
+      node = Element (tag.FootnoteDefinition label) (read false (footnote_lines label line (take (footnote_more later) later)));
+      more = footnote_more later;
     }
 
 -- a task mark is the first inline of the paragraph that the nodes begin with, and else stands before them

@@ -18,6 +18,8 @@ pub use Rattle.md_rules.specs.Fences
 pub use Rattle.md_rules.specs.ThematicBreaks
 pub use Rattle.md_rules.specs.Quotes
 pub use Rattle.md_rules.specs.Metadata as LineMetadata
+pub use Rattle.md_rules.specs.Footnotes
+pub use Rattle.md_rules.specs.Html
 pub use Rattle.md_rules.specs.Items
 pub use Rattle.md_rules.specs.Tables as LineTables
 pub use Rattle.md_rules.specs.Starts
@@ -26,7 +28,9 @@ pub use Rattle.md_rules.specs.Definitions as LineDefinitions
 pub use Rattle.md_rules.specs.Entries
 pub use Rattle.md_rules.specs.Rows
 pub mod Node
+pub mod Kept
 pub mod CodeBlocks
+pub mod HtmlBlocks
 pub mod Containers
 pub mod Tables
 pub mod Definitions
@@ -34,4 +38,3 @@ pub mod Metadata
 pub mod Blocks
 pub mod Taken
 pub mod Written
-pub mod Built

@@ -2,11 +2,12 @@
 ghost use Rattle.std.specs.Prelude.{◌≡◌, ◌++◌, ◌<◌, ◌≤◌, Some, false, IfOk, IsTrue, OnOk, length};
 ghost use Rattle.md_tree.specs.Tree.{Branch, Empty, events};
 ghost use Rattle.md_tree.specs.declared.event.Tag.TheVariants as tag;
+ghost use Rattle.md_rules.specs.Footnotes.{footnote_label};
 ghost use Rattle.md_rules.specs.Items.{marker_of};
 ghost use Rattle.md_events.specs.Node.{block_events};
 ghost use Rattle.md_rules.specs.Definitions.{describes};
 ghost use Rattle.md_rules.specs.declared.entry.Entry.TheVariants.{Description};
-ghost use Rattle.md_events.specs.Containers.{in_item, items, with_task};
+ghost use Rattle.md_events.specs.Containers.{footnote, in_item, items, with_task};
 ghost use Rattle.md_events.specs.Definitions.{definitions, entries, entry_tag, in_description, in_entry};
 ghost use Rattle.md_events.specs.Blocks.{blocks};
 ghost use Rattle.md_events.specs.Written.{begins_quote, first_block, first_list, first_marker, first_quote, nests};
@@ -14,16 +15,18 @@ ghost use Rattle.md_events.specs.Written.{begins_quote, first_block, first_list,
 use crate::code_blocks::{write_code, write_fenced};
 use crate::definitions::write_title;
 use crate::heading::write_heading;
+use crate::html_blocks::write_html;
 use crate::paragraph::{empty_front, front_paragraph, paragraph_more, write_paragraph, write_run};
 use crate::tables::write_table;
 use md_lines::Line;
 use md_rules::{
     BlockStart, Entry, Items, Marker, block_start, description_lines, entries_more, first_alert,
-    hanging, heading_at, is_loose, item_lines, list_more, next_entry, next_item, quoted, task_of,
-    without_kind,
+    footnote_lines, hanging, heading_at, is_loose, item_lines, list_more, next_entry, next_item,
+    quoted, task_of, without_kind,
 };
 use md_tree::{CodeBlockKind, Event, Tag, TagEnd};
 use std::alloc::{AllocError, Global};
+use term_text::CowStr;
 
 /// Appends the events of the blocks of lines, in which containers may stand so many levels deep; in an item of a tight
 /// list their paragraphs are runs of inlines.
@@ -80,7 +83,13 @@ fn write_block<'a>(
             Ok(0)
         }
         BlockStart::Quote => write_quote(alloc, lines, levels - 1, out),
+        BlockStart::Footnote(label) => write_footnote(alloc, label, line, later, levels - 1, out),
         BlockStart::Item(marker) => write_list(alloc, marker, lines, levels - 1, out),
+        BlockStart::Html(end) => {
+            let more = end.html_more(line, later);
+            write_html(alloc, &lines[..1 + more], out)?;
+            Ok(more)
+        }
         BlockStart::Table => write_table(alloc, line, later, nests, out),
         BlockStart::Definitions => write_definitions(alloc, line, later, levels - 1, out),
         BlockStart::Paragraph => {
@@ -119,6 +128,30 @@ fn write_quote<'a>(
     write_blocks(alloc, without_kind(kind, inside), levels, false, out)?;
     out.push(Event::End(TagEnd::BlockQuote(kind)))?;
     Ok(inside.len() - 1)
+}
+
+/// Appends the events of the footnote definition of this label at the line, before these lines, in which containers may
+/// stand so many levels deep, and tells how many of them it takes.
+#[cycle(blocks)]
+fn write_footnote<'a>(
+    alloc: Global,
+    label: CowStr<'a>,
+    line: &Line<'a>,
+    later: &[Line<'a>],
+    levels: usize,
+    out: &mut Vec<Event<'a>>,
+) -> Result<usize, AllocError>
+    requires { footnote_label line.now ≡ Some label }
+    ensures written { OnOk result (out.new.items ≡ out.old.items ++ block_events false (footnote (blocks levels) label.entry line.now later.now)) }
+    ensures lines { IfOk result (λ n. n ≡ (footnote (blocks levels) label.entry line.now later.now).more) }
+    ensures within { IfOk result (λ n. n ≤ length later.now) }
+{
+    let more = hanging(4, later);
+    let inside = footnote_lines(alloc, &label, line, &later[..more])?;
+    out.push(Event::Start(Tag::FootnoteDefinition(label)))?;
+    write_blocks(alloc, inside.as_slice(), levels, false, out)?;
+    out.push(Event::End(TagEnd::FootnoteDefinition))?;
+    Ok(more)
 }
 
 /// Appends the events of the list that begins with an item of this marker at the first line, in whose items containers

@@ -4,15 +4,15 @@
 mod blocks;
 mod code_blocks;
 mod definitions;
-mod forms;
 mod heading;
+mod html_blocks;
+mod kept;
 pub mod laws;
 mod metadata;
 mod paragraph;
 mod reader;
 mod tables;
 
-pub use forms::built;
 pub use md_tree::{
     Alignments, Attrs, BlockQuoteKind, Classes, CodeBlockKind, Event, HeadingLevel, Tag, TagEnd,
     well_formed,

@@ -4,7 +4,7 @@ ghost use Rattle.md_tree.specs.Tree.{Empty, events};
 ghost use Rattle.md_rules.specs.Metadata.{metadata_in, metadata_lines};
 ghost use Rattle.md_events.specs.Metadata.{further_texts, metadata_texts, metadata_then};
 
-use crate::code_blocks::write_text;
+use crate::kept::{Kept, write_kept};
 use md_lines::Line;
 use md_rules::metadata_in;
 use md_tree::{Event, Tag, TagEnd};
@@ -41,7 +41,7 @@ fn write_metadata_texts<'a>(
     let Some((line, further)) = lines.split_first() else {
         return Ok(());
     };
-    write_text(alloc, 0, line, out)?;
+    write_kept(alloc, Kept::Text, 0, line, out)?;
     write_further_texts(alloc, further, out)
 }
 
@@ -56,7 +56,7 @@ fn write_further_texts<'a>(
     let mut at = 0;
     while at < lines.len() {
         out.push(Event::SoftBreak)?;
-        write_text(alloc, 0, &lines[at], out)?;
+        write_kept(alloc, Kept::Text, 0, &lines[at], out)?;
         at += 1;
     }
     Ok(())

@@ -1,8 +1,7 @@
 // A text as the events of its tree.
-ghost use Rattle.std.specs.Prelude.{◌≡◌, IfOk, IsTrue};
+ghost use Rattle.std.specs.Prelude.{◌≡◌, IfOk};
 ghost use Rattle.md_tree.specs.Tree.{events};
 ghost use Rattle.md_events.specs.Blocks.{tree};
-ghost use Rattle.md_events.specs.Built.{built};
 
 use crate::blocks::write_blocks;
 use crate::metadata::write_metadata;
@@ -13,10 +12,8 @@ use std::alloc::{AllocError, Global};
 /// How many levels deep containers may stand in one another.
 const DEPTH_LIMIT: usize = 32;
 
-/// The events of the text's tree; the texts in them borrow from it. The forms of the text must all be built: `built`
-/// tells.
+/// The events of the text's tree; the texts in them borrow from it.
 pub fn read<'a>(alloc: Global, text: &'a str) -> Result<Vec<Event<'a>>, AllocError>
-    requires { IsTrue (built text.now) }
     ensures { IfOk result (λ v. v.items ≡ events (tree text.now)) }
 {
     let lines = lines_of(alloc, text)?;

@@ -14,7 +14,6 @@ pub no_cause : (job : Job) (bytes : List ℕ) → Cause job Done bytes → HasNo
 no_cause job bytes can = (
   λ not_utf8. not_utf8 can.utf8,
   λ narrow. (let both : true ≡ false = sym narrow.wide ∙ can.fits narrow.some in cc),
-  λ unbuilt. (let both : true ≡ false = sym can.is_built ∙ unbuilt.not_built in cc),
 )
 
 -- a run that has read all and has no output
@@ -23,5 +22,4 @@ pub no_output_shows : (job : Job) (why : NoView) (r w : Change) (taken : List �
 no_output_shows job no.Memory r w taken untouched read cause same =
     record { taken = taken; took = read.took; read = (omega (arith, read.short), read.no_fault); wrote = same }
 no_output_shows job no.NotUtf8 r w taken untouched read cause same = record { taken = taken; took = read.took; read = (read, cause); wrote = same }
-no_output_shows job no.Unbuilt r w taken untouched read cause same = record { taken = taken; took = read.took; read = (read, cause); wrote = same }
 no_output_shows job no.TooNarrow r w taken untouched read cause same = record { taken = taken; took = read.took; read = (read, cause); wrote = same }

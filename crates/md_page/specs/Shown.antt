@@ -9,7 +9,6 @@ use Rattle.term_core.specs.declared.rect.Rect.{Rect}
 use Rattle.term_core.specs.Rect.{is_empty}
 use Rattle.term_widgets.specs.Page.{PageView, rows_of, any_wider}
 use Rattle.md_events.specs.Blocks.{tree}
-use Rattle.md_events.specs.Built.{built}
 use Rattle.md_text.specs.Look.{Look, ansi_look, default_look}
 use Rattle.md_text.specs.Layout.{document_lines}
 use Rattle.md_words.specs.declared.job.Job.{Job}
@@ -19,7 +18,7 @@ use Rattle.md_page.specs.declared.error.ViewError.TheVariants as refusal
 use Rattle.md_page.specs.declared.view.NoView.{NoView}
 use Rattle.md_page.specs.declared.view.NoView.TheVariants as no
 use Rattle.programs.specs.declared.status.Status.{Status}
-use Rattle.programs.specs.declared.status.Status.TheVariants.{Done, NotUtf8, TooNarrow, Memory, Unbuilt}
+use Rattle.programs.specs.declared.status.Status.TheVariants.{Done, NotUtf8, TooNarrow, Memory}
 
 -- the rows of a text's page: the wrap, at its width, of the lines that the text's tree lays out
 abbrev pub rows : Look → List ℕ → ℕ → List (List Grapheme)
@@ -66,37 +65,28 @@ shown_rows job text = if has_no_cell job then [] else rows (job_look job) text j
 abbrev pub shown : Job → List ℕ → List ℕ
 shown job text = print (view (shown_rows job text) job.width job.height job.scroll) (length (shown_rows job text))
 
--- a text has an output: it is UTF-8, its forms are built, and no visible grapheme is wider than the view
+-- a text has an output: it is UTF-8, and no visible grapheme is wider than the view
 pub record IsShowable (job : Job) (text : List ℕ) : Type 0 where
   pub utf8 : IsUtf8 text
-  pub is_built : built text ≡ true
   pub fits : has_no_cell job ≡ false → too_wide (job_look job) text job.width ≡ false
 
--- a text of built forms has a visible grapheme that is wider than the view
+-- a text has a visible grapheme that is wider than the view
 pub record IsNarrow (job : Job) (text : List ℕ) : Type 0 where
   pub utf8 : IsUtf8 text
-  pub is_built : built text ≡ true
   pub some : has_no_cell job ≡ false
   pub wide : too_wide (job_look job) text job.width ≡ true
-
--- a text is UTF-8, and has a form that is not built
-pub record IsUnbuilt (text : List ℕ) : Type 0 where
-  pub utf8 : IsUtf8 text
-  pub not_built : built text ≡ false
 
 -- what a status says of all the bytes of the source
 abbrev pub Cause : Job → Status → List ℕ → Type 0
 Cause job Done text = IsShowable job text
 Cause job NotUtf8 text = IsUtf8 text → ⊥
 Cause job TooNarrow text = IsNarrow job text
-Cause job Unbuilt text = IsUnbuilt text
 Cause job _ text = ⊤
 
 -- how a run ends that has no view to print
 abbrev pub status_of : NoView → Status
 status_of no.Memory = Memory
 status_of no.NotUtf8 = NotUtf8
-status_of no.Unbuilt = Unbuilt
 status_of no.TooNarrow = TooNarrow
 
 -- why there is no view

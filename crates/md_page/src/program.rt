@@ -12,7 +12,7 @@ ghost use Rattle.md_text.specs.Layout.{document_layout, document_lines};
 ghost use Rattle.md_text.specs.Pieces.{puts, document_pieces};
 ghost use Rattle.md_text.specs.Framed.{HoldsPieces};
 ghost use Rattle.programs.specs.Writing.{WroteSome};
-ghost use Rattle.md_page.specs.Shown.{Cause, IsShowable, IsNarrow, IsUnbuilt, job_look, shown};
+ghost use Rattle.md_page.specs.Shown.{Cause, IsShowable, IsNarrow, job_look, shown};
 
 use crate::output::output;
 use ends::{Sink, Source};
@@ -69,7 +69,7 @@ fn run_words<R: Source, W: Sink>(
 ///
 /// It reads the source to its end, at most 16,777,216 bytes, draws the text's page into a blank buffer of WIDTH by
 /// HEIGHT cells, and writes the buffer's rows and the page's number of rows. The statuses come in the order: `Usage`;
-/// `ReadFault` or `TooLong`, whichever call came first; `NotUtf8`; `Unbuilt`; `TooNarrow`; `WriteFault`. `Memory` may
+/// `ReadFault` or `TooLong`, whichever call came first; `NotUtf8`; `TooNarrow`; `WriteFault`. `Memory` may
 /// stand in place of any of them before the first write.
 pub fn run<R: Source, W: Sink>(
     alloc: Global,
@@ -111,8 +111,6 @@ pub fn run<R: Source, W: Sink>(
         length bytes ≡ length rest + (limit + 1) → (result ≡ Status.TooLong) ⊎ (result ≡ Status.Memory))) }
     ensures not_utf8 { result ≡ Status.NotUtf8
         → IfSome (R.left source.old) (λ bytes. IsAtEnd (R.left source.new) × (IsUtf8 bytes → ⊥)) }
-    ensures unbuilt { result ≡ Status.Unbuilt
-        → IfSome (R.left source.old) (λ bytes. IsAtEnd (R.left source.new) × IsUnbuilt bytes) }
     ensures too_narrow { (job : Job) → job_of (map string_bytes words.now) ≡ Some job → result ≡ Status.TooNarrow
         → IfSome (R.left source.old) (λ bytes. IsAtEnd (R.left source.new) × IsNarrow job bytes) }
     ensures write_fault { (job : Job) → job_of (map string_bytes words.now) ≡ Some job → result ≡ Status.WriteFault

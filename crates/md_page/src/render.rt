@@ -1,5 +1,5 @@
 // The page of a Markdown text, drawn into a buffer.
-ghost use Rattle.std.specs.Prelude.{◌≡◌, ◌⊎◌, ℕ, ◌↔◌, [], true, false, IsTrue, IfOk, IfErr, OnOk, OnErr};
+ghost use Rattle.std.specs.Prelude.{◌≡◌, ◌⊎◌, ℕ, ◌↔◌, [], true, false, IfOk, IfErr, OnOk, OnErr};
 ghost use Rattle.std.specs.Prelude.{IsOkAnd, IsErrOf, IsUtf8, length, ◌<◌, ◌^◌};
 ghost use Rattle.term_core.specs.BufferRows.{area_rows};
 ghost use Rattle.term_core.specs.Buffers.{BufferView, cell_at, cell_put};
@@ -8,7 +8,6 @@ ghost use Rattle.term_core.specs.Lists.{joined};
 ghost use Rattle.term_core.specs.Rect.{is_empty, intersection};
 ghost use Rattle.term_widgets.specs.Page.{PageView, page_rows};
 ghost use Rattle.md_events.specs.Blocks.{tree};
-ghost use Rattle.md_events.specs.Built.{built};
 ghost use Rattle.md_text.specs.Look.{look_of};
 ghost use Rattle.md_text.specs.Layout.{document_lines, document_layout};
 ghost use Rattle.md_text.specs.Pieces.{puts, document_pieces};
@@ -29,7 +28,6 @@ fn page_of<'a, S: StyleSheet, H: Highlighter>(
     highlighter: &H,
     width: u16,
 ) -> Result<Page<'a>, WidgetError>
-    requires { IsTrue (built text.now) }
     ensures ok { let look = look_of options.now S.sheet (H.known highlighter.now) (H.answer highlighter.now) in
         IfOk result (λ page. page ≡ record { width = width; lines = document_lines look (tree text.now) }) }
     ensures fits { let look = look_of options.now S.sheet (H.known highlighter.now) (H.answer highlighter.now) in
@@ -53,7 +51,6 @@ pub(crate) fn draw_text<'a, S: StyleSheet, H: Highlighter>(
     scroll: usize,
     buf: &mut Buffer,
 ) -> Result<Page<'a>, WidgetError>
-    requires { IsTrue (built text.now) }
     ensures drawn { let cut = intersection area buf.old.area in
         let look = look_of options.now S.sheet (H.known highlighter.now) (H.answer highlighter.now) in
         is_empty cut ≡ false → IfOk result (λ page. IsDrawn look text.now cut scroll page buf.old buf.new) }
@@ -93,7 +90,7 @@ pub(crate) fn draw_text<'a, S: StyleSheet, H: Highlighter>(
 ///
 /// `NotUtf8` comes exactly where the bytes are not UTF-8, before all else and without taking memory; `TooNarrow`
 /// exactly where the area has a cell and a visible grapheme of the layout is wider than the cut area; `Memory` may
-/// stand in place of the others. After every refusal the buffer is as before. The text has to be built (`built`).
+/// stand in place of the others. After every refusal the buffer is as before.
 #[tactic(auto, using(crate::proofs::Headline::puts_are_pieces, crate::proofs::Headline::lines_hold_pieces))]
 pub fn render_view<'a, S: StyleSheet, H: Highlighter>(
     alloc: Global,
@@ -104,8 +101,6 @@ pub fn render_view<'a, S: StyleSheet, H: Highlighter>(
     scroll: usize,
     buf: &mut Buffer,
 ) -> Result<Page<'a>, ViewError>
-    requires { IsUtf8 markdown.now → IsTrue (built markdown.now) }
-
     // The headline: the page's rows, its pieces, the area's cells, and no other cell.
     ensures rows { let cut = intersection area buf.old.area in
         let look = look_of options.now S.sheet (H.known highlighter.now) (H.answer highlighter.now) in

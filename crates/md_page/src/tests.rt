@@ -2,7 +2,6 @@
 ghost use Rattle.std.specs.Prelude.{◌≤◌};
 
 use crate::{MemorySink, MemorySource, Status, ViewError, render_view, run};
-use md_events::built;
 use md_text::{NoHighlight, Options};
 use std::alloc::{AllocError, Global};
 use std::test::Fail;
@@ -62,7 +61,6 @@ fn refusals_write_nothing(rt: HostRuntime) -> Result<(), Fail> {
         (["20", "2", "x"], "a", Status::Usage),
         (["1001", "2", "0"], "a", Status::Usage),
         (["20", "2", "-1"], "a", Status::Usage),
-        (["5", "1", "0"], "a<b", Status::Unbuilt),
         (["1", "1", "0"], "漢", Status::TooNarrow),
     ];
     for (words, input, wanted) in rows {
@@ -129,19 +127,8 @@ fn rows_drawn(
     buf: &mut Buffer,
 ) -> Result<usize, ViewError> {
     let options = Options::default();
-    match simdutf8::compat::from_utf8(markdown) {
-        Ok(text) => {
-            if !built(text) {
-                return Ok(usize::MAX);
-            }
-            let page = render_view(alloc, markdown, &options, &NoHighlight, area, 0, buf)?;
-            Ok(page.len())
-        }
-        Err(_) => {
-            let page = render_view(alloc, markdown, &options, &NoHighlight, area, 0, buf)?;
-            Ok(page.len())
-        }
-    }
+    let page = render_view(alloc, markdown, &options, &NoHighlight, area, 0, buf)?;
+    Ok(page.len())
 }
 
 #[test]

@@ -5,7 +5,6 @@ ghost use Rattle.term_core.specs.Cells.{view};
 ghost use Rattle.md_page.specs.Shown.{IsShowable, HasNoView, shown_rows, status_of};
 
 use crate::render::draw_text;
-use md_events::built;
 use md_text::{AnsiFence, Options};
 use md_words::Job;
 use programs::Status;
@@ -19,8 +18,6 @@ pub enum NoView {
     Memory,
     /// The bytes are not UTF-8.
     NotUtf8,
-    /// The text has a form that is not built yet.
-    Unbuilt,
     /// A visible grapheme of the text is wider than the view.
     TooNarrow,
 }
@@ -33,7 +30,6 @@ impl NoView {
         match self {
             NoView::Memory => Status::Memory,
             NoView::NotUtf8 => Status::NotUtf8,
-            NoView::Unbuilt => Status::Unbuilt,
             NoView::TooNarrow => Status::TooNarrow,
         }
     }
@@ -54,9 +50,6 @@ pub fn drawn_view(alloc: Global, bytes: &[u8], job: Job) -> Result<(Buffer, usiz
     let Ok(text) = simdutf8::compat::from_utf8(bytes) else {
         return Err(NoView::NotUtf8);
     };
-    if !built(text) {
-        return Err(NoView::Unbuilt);
-    }
     let area = Rect::new(0, 0, job.width, job.height);
     let Ok(mut buffer) = Buffer::empty(alloc, area) else {
         return Err(NoView::Memory);

@@ -8,6 +8,7 @@ use Rattle.md_rules.specs.Texts.{begins_with}
 use Rattle.md_rules.specs.Quotes.{less, quoted, quotes, unquoted, without_kind}
 use Rattle.md_rules.specs.Hung.{hung}
 use Rattle.md_rules.specs.Definitions.{description_column, description_lines}
+use Rattle.md_rules.specs.Footnotes.{footnote_label, footnote_line, footnote_lines, label_in}
 use Rattle.md_rules.specs.Items.{item_lines, task_of, without_task}
 use Rattle.md_tree.specs.declared.event.BlockQuoteKind.{BlockQuoteKind}
 use Rattle.std.specs.Prelude.{Option, Some, None}
@@ -73,6 +74,18 @@ filled-description line own = filled-hung (description_column line) (less 1 (lin
 
 pub filled-item : (column : ℕ) (first : LineText) (own : List LineText) → filled (item_lines column first own) ≤ suc (filled own)
 filled-item column first own = filled-hung column (without_task (task_of first) first) own
+
+-- a footnote definition stands on a line that is not empty
+labels-filled : (line : LineText) (label : List ℕ) → footnote_label line ≡ Some label → is_empty line ≡ false
+labels-filled line label h = go line.body (is_shallow line) h
+  where
+    go : (body : List ℕ) (v : Bool) → cond v (label_in body) None ≡ Some label → is_nothing body ≡ false
+    go [] true h = cc
+    go [] false h = cc
+    go (b ∷ bs) v h = refl
+
+pub filled-footnote : (label : List ℕ) (line : LineText) (n : ℕ) (later : List LineText) → footnote_label line ≡ Some label → filled (footnote_lines label line (take n later)) ≤ filled (line ∷ later)
+filled-footnote label line n later h = omega (arith, filled-hung 4 (footnote_line label line) (take n later), filled-take n later, filled-first line later (labels-filled line label h))
 
 -- a line has a byte for its end, but for the last
 abbrev weight : List (List ℕ) → ℕ

@@ -4,6 +4,7 @@ pub mod OneLine
 pub mod BracedLemmas
 pub mod CodeLemmas
 pub mod ItemLemmas
+pub mod FootnoteLemmas
 pub mod StartLemmas
 pub mod RuleLaws
 pub mod ListLemmas

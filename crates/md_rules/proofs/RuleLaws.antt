@@ -9,6 +9,8 @@ use Rattle.md_rules.specs.Code.{is_code}
 use Rattle.md_rules.specs.Fences.{fence_of}
 use Rattle.md_rules.specs.ThematicBreaks.{is_thematic_break}
 use Rattle.md_rules.specs.Headings.{heading_level}
+use Rattle.md_rules.specs.Footnotes.{footnote_label}
+use Rattle.md_rules.specs.Html.{html_end}
 use Rattle.md_rules.specs.Tables.{starts_table}
 use Rattle.md_rules.specs.Definitions.{starts_definitions}
 use Rattle.md_rules.specs.Items.{may_interrupt}
@@ -28,10 +30,15 @@ no-quote nests items line (inl e) = rw e refl
 no-quote false items line (inr e) = refl
 no-quote true items line (inr e) = e.0
 
+no-footnote : (nests : Bool) (items : Items) (line : LineText) → NoContainer nests items line → (nests && is_some (footnote_label line)) ≡ false
+no-footnote nests items line (inl e) = rw e refl
+no-footnote false items line (inr e) = refl
+no-footnote true items line (inr e) = ap is_some e.1
+
 no-item : (nests : Bool) (items : Items) (line : LineText) → NoContainer nests items line → (nests && is_some (item_start items line)) ≡ false
 no-item nests items line (inl e) = rw e refl
 no-item false items line (inr e) = refl
-no-item true items line (inr e) = ap is_some e.1
+no-item true items line (inr e) = ap is_some e.2
 
 -- the rules before a place do not hold
 record Before (nests : Bool) (items : Items) (line : LineText) (later : List LineText) (bound : ℕ) : Type 0 where
@@ -40,10 +47,12 @@ record Before (nests : Bool) (items : Items) (line : LineText) (later : List Lin
   thematic_break : 2 < bound → is_thematic_break line ≡ false
   heading : 3 < bound → heading_level line ≡ None
   quote : 4 < bound → (nests && quotes line) ≡ false
-  item : 5 < bound → (nests && is_some (item_start items line)) ≡ false
-  table : 6 < bound → starts_table line later ≡ false
-  definitions : 7 < bound → (nests && starts_definitions line later) ≡ false
-  last : bound ≤ 8
+  footnote : 5 < bound → (nests && is_some (footnote_label line)) ≡ false
+  item : 6 < bound → (nests && is_some (item_start items line)) ≡ false
+  html : 7 < bound → html_end line ≡ None
+  table : 8 < bound → starts_table line later ≡ false
+  definitions : 9 < bound → (nests && starts_definitions line later) ≡ false
+  last : bound ≤ 10
 
 before : (nests : Bool) (items : Items) (line : LineText) (later : List LineText) (bound : ℕ) → Before nests items line later bound → (r : Rule) → place r < bound → holds nests items line later r ≡ false
 before nests items line later bound b rule.Code lt = b.code lt
@@ -51,22 +60,50 @@ before nests items line later bound b rule.Fence lt = ap is_some (b.fence lt)
 before nests items line later bound b rule.ThematicBreak lt = b.thematic_break lt
 before nests items line later bound b rule.Heading lt = ap is_some (b.heading lt)
 before nests items line later bound b rule.Quote lt = b.quote lt
+before nests items line later bound b rule.Footnote lt = b.footnote lt
 before nests items line later bound b rule.Item lt = b.item lt
+before nests items line later bound b rule.Html lt = ap is_some (b.html lt)
 before nests items line later bound b rule.Table lt = b.table lt
 before nests items line later bound b rule.Definitions lt = b.definitions lt
 before nests items line later bound b rule.Paragraph lt = absurd (omega (arith, b.last))
 
--- no leaf block begins, and these hold of the rules for containers and tables
-behind-leaves : (nests : Bool) (items : Items) (line : LineText) (later : List LineText) (bound : ℕ) → NoLeaf line → (4 < bound → (nests && quotes line) ≡ false) → (5 < bound → (nests && is_some (item_start items line)) ≡ false) → (6 < bound → starts_table line later ≡ false) → (7 < bound → (nests && starts_definitions line later) ≡ false) → bound ≤ 8 → (r : Rule) → place r < bound → holds nests items line later r ≡ false
-behind-leaves nests items line later bound text q i t d le =
+-- what is known of the rules behind those for leaf blocks, up to a place
+record Behind (nests : Bool) (items : Items) (line : LineText) (later : List LineText) (bound : ℕ) : Type 0 where
+  quote : 4 < bound → (nests && quotes line) ≡ false
+  footnote : 5 < bound → (nests && is_some (footnote_label line)) ≡ false
+  item : 6 < bound → (nests && is_some (item_start items line)) ≡ false
+  html : 7 < bound → html_end line ≡ None
+  table : 8 < bound → starts_table line later ≡ false
+  definitions : 9 < bound → (nests && starts_definitions line later) ≡ false
+  last : bound ≤ 10
+
+-- no leaf block begins, and these do not hold
+behind-leaves : (nests : Bool) (items : Items) (line : LineText) (later : List LineText) (bound : ℕ) → NoLeaf line → Behind nests items line later bound → (r : Rule) → place r < bound → holds nests items line later r ≡ false
+behind-leaves nests items line later bound text b =
     before nests items line later bound
     (record {
       code = λ lt. text.code;
       fence = λ lt. text.fence;
       thematic_break = λ lt. text.thematic_break;
       heading = λ lt. text.heading;
-      quote = q;
-      item = i;
+      quote = b.quote;
+      footnote = b.footnote;
+      item = b.item;
+      html = b.html;
+      table = b.table;
+      definitions = b.definitions;
+      last = b.last;
+    })
+
+-- no container begins either
+behind-containers : (nests : Bool) (items : Items) (line : LineText) (later : List LineText) (bound : ℕ) → NoLeaf line → NoContainer nests items line → (7 < bound → html_end line ≡ None) → (8 < bound → starts_table line later ≡ false) → (9 < bound → (nests && starts_definitions line later) ≡ false) → bound ≤ 10 → (r : Rule) → place r < bound → holds nests items line later r ≡ false
+behind-containers nests items line later bound text none h t d le =
+    behind-leaves nests items line later bound text
+    (record {
+      quote = λ lt. no-quote nests items line none;
+      footnote = λ lt. no-footnote nests items line none;
+      item = λ lt. no-item nests items line none;
+      html = h;
       table = t;
       definitions = d;
       last = le;
@@ -94,7 +131,9 @@ is-first nests items line later =
           thematic_break = λ lt. absurd (omega arith);
           heading = λ lt. absurd (omega arith);
           quote = λ lt. absurd (omega arith);
+          footnote = λ lt. absurd (omega arith);
           item = λ lt. absurd (omega arith);
+          html = λ lt. absurd (omega arith);
           table = λ lt. absurd (omega arith);
           definitions = λ lt. absurd (omega arith);
           last = omega arith;
@@ -108,7 +147,9 @@ is-first nests items line later =
           thematic_break = λ lt. absurd (omega arith);
           heading = λ lt. absurd (omega arith);
           quote = λ lt. absurd (omega arith);
+          footnote = λ lt. absurd (omega arith);
           item = λ lt. absurd (omega arith);
+          html = λ lt. absurd (omega arith);
           table = λ lt. absurd (omega arith);
           definitions = λ lt. absurd (omega arith);
           last = omega arith;
@@ -122,17 +163,66 @@ is-first nests items line later =
           thematic_break = λ lt. b;
           heading = λ lt. absurd (omega arith);
           quote = λ lt. absurd (omega arith);
+          footnote = λ lt. absurd (omega arith);
           item = λ lt. absurd (omega arith);
+          html = λ lt. absurd (omega arith);
           table = λ lt. absurd (omega arith);
           definitions = λ lt. absurd (omega arith);
           last = omega arith;
         }),
       );
-      quote = λ text n e. (both-true nests (quotes line) n e, behind-leaves nests items line later 4 text (λ lt. absurd (omega arith)) (λ lt. absurd (omega arith)) (λ lt. absurd (omega arith)) (λ lt. absurd (omega arith)) (omega arith));
-      item = λ marker text n q e. (both-true nests (is_some (item_start items line)) n (ap is_some e), behind-leaves nests items line later 5 text (λ lt. second-false nests (quotes line) q) (λ lt. absurd (omega arith)) (λ lt. absurd (omega arith)) (λ lt. absurd (omega arith)) (omega arith));
-      table = λ text none e. (e, behind-leaves nests items line later 6 text (λ lt. no-quote nests items line none) (λ lt. no-item nests items line none) (λ lt. absurd (omega arith)) (λ lt. absurd (omega arith)) (omega arith));
-      definitions = λ text none t e. (e, behind-leaves nests items line later 7 text (λ lt. no-quote nests items line none) (λ lt. no-item nests items line none) (λ lt. t) (λ lt. absurd (omega arith)) (omega arith));
-      paragraph = λ text none t e. (refl, behind-leaves nests items line later 8 text (λ lt. no-quote nests items line none) (λ lt. no-item nests items line none) (λ lt. t) (λ lt. e) (omega arith));
+      quote = λ text n e. (
+        both-true nests (quotes line) n e,
+        behind-leaves nests items line later 4 text (record {
+          quote = λ lt. absurd (omega arith);
+          footnote = λ lt. absurd (omega arith);
+          item = λ lt. absurd (omega arith);
+          html = λ lt. absurd (omega arith);
+          table = λ lt. absurd (omega arith);
+          definitions = λ lt. absurd (omega arith);
+          last = omega arith;
+        }),
+      );
+      footnote = λ label text n q e. (
+        both-true nests (is_some (footnote_label line)) n (ap is_some e),
+        behind-leaves nests items line later 5 text (record {
+          quote = λ lt. second-false nests (quotes line) q;
+          footnote = λ lt. absurd (omega arith);
+          item = λ lt. absurd (omega arith);
+          html = λ lt. absurd (omega arith);
+          table = λ lt. absurd (omega arith);
+          definitions = λ lt. absurd (omega arith);
+          last = omega arith;
+        }),
+      );
+      item = λ marker text n q f e. (
+        both-true nests (is_some (item_start items line)) n (ap is_some e),
+        behind-leaves nests items line later 6 text (record {
+          quote = λ lt. second-false nests (quotes line) q;
+          footnote = λ lt. second-false nests (is_some (footnote_label line)) (ap is_some f);
+          item = λ lt. absurd (omega arith);
+          html = λ lt. absurd (omega arith);
+          table = λ lt. absurd (omega arith);
+          definitions = λ lt. absurd (omega arith);
+          last = omega arith;
+        }),
+      );
+      html = λ end text none e. (
+        ap is_some e,
+        behind-containers nests items line later 7 text none (λ lt. absurd (omega arith)) (λ lt. absurd (omega arith)) (λ lt. absurd (omega arith)) (omega arith),
+      );
+      table = λ text none w e. (
+        e,
+        behind-containers nests items line later 8 text none (λ lt. w) (λ lt. absurd (omega arith)) (λ lt. absurd (omega arith)) (omega arith),
+      );
+      definitions = λ text none w t e. (
+        e,
+        behind-containers nests items line later 9 text none (λ lt. w) (λ lt. t) (λ lt. absurd (omega arith)) (omega arith),
+      );
+      paragraph = λ text none w t e. (
+        refl,
+        behind-containers nests items line later 10 text none (λ lt. w) (λ lt. t) (λ lt. e) (omega arith),
+      );
     })
 
 le-from : (a b : ℕ) → nat_le a b ≡ true → a ≤ b
@@ -181,7 +271,9 @@ only-code nests items line later c rule.Fence lt = absurd (omega arith)
 only-code nests items line later c rule.ThematicBreak lt = absurd (omega arith)
 only-code nests items line later c rule.Heading lt = absurd (omega arith)
 only-code nests items line later c rule.Quote lt = absurd (omega arith)
+only-code nests items line later c rule.Footnote lt = absurd (omega arith)
 only-code nests items line later c rule.Item lt = absurd (omega arith)
+only-code nests items line later c rule.Html lt = absurd (omega arith)
 only-code nests items line later c rule.Table lt = absurd (omega arith)
 only-code nests items line later c rule.Definitions lt = absurd (omega arith)
 only-code nests items line later c rule.Paragraph lt = absurd (omega arith)
@@ -200,10 +292,12 @@ goes-on nests line later out =
       thematic_break = λ c f e. ended c rule.ThematicBreak refl e;
       heading = λ level c f b e. ended c rule.Heading refl (ap is_some e);
       quote = λ text n e. ended text.code rule.Quote refl (both-true nests (quotes line) n e);
-      item = λ marker text n q e. late nests line marker n e (kept nests line later text.code out rule.Item refl);
-      table = λ text none e. ended text.code rule.Table refl e;
-      definitions = λ text none t e. ended text.code rule.Definitions refl e;
-      paragraph = λ text none t e. tt;
+      footnote = λ label text n q e. ended text.code rule.Footnote refl (both-true nests (is_some (footnote_label line)) n (ap is_some e));
+      item = λ marker text n q f e. late nests line marker n e (kept nests line later text.code out rule.Item refl);
+      html = λ end text none e. ended text.code rule.Html refl (ap is_some e);
+      table = λ text none w e. ended text.code rule.Table refl e;
+      definitions = λ text none w t e. ended text.code rule.Definitions refl e;
+      paragraph = λ text none w t e. tt;
     })
   where
     ended : is_code line ≡ false → (r : Rule) → is_among rule.Fence rule.Definitions r ≡ true → holds nests Interrupting line later r ≡ true → ⊥

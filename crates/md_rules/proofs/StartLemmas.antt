@@ -1,5 +1,5 @@
 -- What begins at a line.
-use Rattle.std.proofs.Common.{List, ◌≡◌, refl, ap, ◌∙◌, Bool, true, false, cond, ◌&&◌, Option, Some, None, ◌⊎◌, inl, inr}
+use Rattle.std.proofs.Common.{ℕ, List, ◌≡◌, refl, ap, ◌∙◌, Bool, true, false, cond, ◌&&◌, Option, Some, None, ◌⊎◌, inl, inr}
 use Rattle.md_tree.specs.declared.event.HeadingLevel.{HeadingLevel}
 use Rattle.md_tree.proofs.Nodes.{and_left}
 use Rattle.md_lines.specs.Lines.{LineText}
@@ -9,11 +9,14 @@ use Rattle.md_rules.specs.ThematicBreaks.{is_thematic_break}
 use Rattle.md_rules.specs.Headings.{heading_level}
 use Rattle.md_rules.specs.Quotes.{quotes}
 use Rattle.md_rules.specs.Items.{marker_of}
+use Rattle.md_rules.specs.Footnotes.{footnote_label}
+use Rattle.md_rules.specs.Html.{html_end}
 use Rattle.md_rules.specs.Tables.{starts_table}
 use Rattle.md_rules.specs.Definitions.{starts_definitions}
 use Rattle.md_rules.specs.Lists.{marker_at}
-use Rattle.md_rules.specs.Starts.{block_start, container_or, counted, counts, fence_or, heading_or, item_or, item_start, start_of_text}
+use Rattle.md_rules.specs.Starts.{block_start, container_or, counted, counts, fence_or, footnote_or, heading_or, html_or, item_or, item_start, start_of_text}
 use Rattle.md_rules.specs.declared.fence.Fence.{Fence}
+use Rattle.md_rules.specs.declared.html.HtmlEnd.{HtmlEnd}
 use Rattle.md_rules.specs.declared.item.Marker.{Marker}
 use Rattle.md_rules.specs.declared.start.Items.{Items}
 use Rattle.md_rules.specs.declared.start.BlockStart.{BlockStart}
@@ -21,7 +24,7 @@ use Rattle.md_rules.specs.declared.start.BlockStart.TheVariants as start
 
 -- no container begins at a line
 abbrev pub NoContainer : Bool → Items → LineText → Type 0
-NoContainer nests items line = (nests ≡ false) ⊎ ((quotes line ≡ false) × (item_start items line ≡ None))
+NoContainer nests items line = (nests ≡ false) ⊎ ((quotes line ≡ false) × (footnote_label line ≡ None) × (item_start items line ≡ None))
 
 -- no leaf block begins at a line
 pub record NoLeaf (line : LineText) : Type 0 where
@@ -38,32 +41,42 @@ pub record EachStart (P : BlockStart → Type 0) (nests : Bool) (items : Items) 
   pub thematic_break : is_code line ≡ false → fence_of line ≡ None → is_thematic_break line ≡ true → P start.ThematicBreak
   pub heading : (level : HeadingLevel) → is_code line ≡ false → fence_of line ≡ None → is_thematic_break line ≡ false → heading_level line ≡ Some level → P (start.Heading level)
   pub quote : NoLeaf line → nests ≡ true → quotes line ≡ true → P start.Quote
-  pub item : (marker : Marker) → NoLeaf line → nests ≡ true → quotes line ≡ false → item_start items line ≡ Some marker → P (start.Item marker)
-  pub table : NoLeaf line → NoContainer nests items line → starts_table line later ≡ true → P start.Table
-  pub definitions : NoLeaf line → NoContainer nests items line → starts_table line later ≡ false → (nests && starts_definitions line later) ≡ true → P start.Definitions
-  pub paragraph : NoLeaf line → NoContainer nests items line → starts_table line later ≡ false → (nests && starts_definitions line later) ≡ false → P start.Paragraph
+  pub footnote : (label : List ℕ) → NoLeaf line → nests ≡ true → quotes line ≡ false → footnote_label line ≡ Some label → P (start.Footnote label)
+  pub item : (marker : Marker) → NoLeaf line → nests ≡ true → quotes line ≡ false → footnote_label line ≡ None → item_start items line ≡ Some marker → P (start.Item marker)
+  pub html : (end : HtmlEnd) → NoLeaf line → NoContainer nests items line → html_end line ≡ Some end → P (start.Html end)
+  pub table : NoLeaf line → NoContainer nests items line → html_end line ≡ None → starts_table line later ≡ true → P start.Table
+  pub definitions : NoLeaf line → NoContainer nests items line → html_end line ≡ None → starts_table line later ≡ false → (nests && starts_definitions line later) ≡ true → P start.Definitions
+  pub paragraph : NoLeaf line → NoContainer nests items line → html_end line ≡ None → starts_table line later ≡ false → (nests && starts_definitions line later) ≡ false → P start.Paragraph
 
 pub each-start : (P : BlockStart → Type 0) (nests : Bool) (items : Items) (line : LineText) (later : List LineText) → EachStart P nests items line later → P (block_start nests items line later)
 each-start P nests items line later each = coded (is_code line) refl
   where
     text : NoLeaf line → NoContainer nests items line → P (start_of_text nests line later)
-    text no_leaf no_container = go (starts_table line later) refl
+    text no_leaf no_container = tagged (html_end line) refl
       where
-        defining : starts_table line later ≡ false → (v : Bool) → (nests && starts_definitions line later) ≡ v → P (cond v start.Definitions start.Paragraph)
-        defining t true e = each.definitions no_leaf no_container t e
-        defining t false e = each.paragraph no_leaf no_container t e
+        defining : html_end line ≡ None → starts_table line later ≡ false → (v : Bool) → (nests && starts_definitions line later) ≡ v → P (cond v start.Definitions start.Paragraph)
+        defining h t true e = each.definitions no_leaf no_container h t e
+        defining h t false e = each.paragraph no_leaf no_container h t e
 
-        go : (v : Bool) → starts_table line later ≡ v → P (cond v start.Table (cond (nests && starts_definitions line later) start.Definitions start.Paragraph))
-        go true e = each.table no_leaf no_container e
-        go false e = defining e (nests && starts_definitions line later) refl
+        barred : html_end line ≡ None → (v : Bool) → starts_table line later ≡ v → P (cond v start.Table (cond (nests && starts_definitions line later) start.Definitions start.Paragraph))
+        barred h true e = each.table no_leaf no_container h e
+        barred h false e = defining h e (nests && starts_definitions line later) refl
 
-    itemized : NoLeaf line → nests ≡ true → quotes line ≡ false → (found : Option Marker) → item_start items line ≡ found → P (item_or found (start_of_text nests line later))
-    itemized no_leaf n q (Some marker) e = each.item marker no_leaf n q e
-    itemized no_leaf n q None e = text no_leaf (inr (q, e))
+        tagged : (found : Option HtmlEnd) → html_end line ≡ found → P (html_or found (cond (starts_table line later) start.Table (cond (nests && starts_definitions line later) start.Definitions start.Paragraph)))
+        tagged (Some end) e = each.html end no_leaf no_container e
+        tagged None e = barred e (starts_table line later) refl
 
-    quoting : NoLeaf line → nests ≡ true → (v : Bool) → quotes line ≡ v → P (cond v start.Quote (item_or (item_start items line) (start_of_text nests line later)))
+    itemized : NoLeaf line → nests ≡ true → quotes line ≡ false → footnote_label line ≡ None → (found : Option Marker) → item_start items line ≡ found → P (item_or found (start_of_text nests line later))
+    itemized no_leaf n q f (Some marker) e = each.item marker no_leaf n q f e
+    itemized no_leaf n q f None e = text no_leaf (inr (q, f, e))
+
+    noted : NoLeaf line → nests ≡ true → quotes line ≡ false → (found : Option (List ℕ)) → footnote_label line ≡ found → P (footnote_or found (item_or (item_start items line) (start_of_text nests line later)))
+    noted no_leaf n q (Some label) e = each.footnote label no_leaf n q e
+    noted no_leaf n q None e = itemized no_leaf n q e (item_start items line) refl
+
+    quoting : NoLeaf line → nests ≡ true → (v : Bool) → quotes line ≡ v → P (cond v start.Quote (footnote_or (footnote_label line) (item_or (item_start items line) (start_of_text nests line later))))
     quoting no_leaf n true e = each.quote no_leaf n e
-    quoting no_leaf n false e = itemized no_leaf n e (item_start items line) refl
+    quoting no_leaf n false e = noted no_leaf n e (footnote_label line) refl
 
     nesting : NoLeaf line → (v : Bool) → nests ≡ v → P (container_or v items line (start_of_text nests line later))
     nesting no_leaf true e = quoting no_leaf e (quotes line) refl
@@ -107,10 +120,12 @@ start-item nests items line later m =
       thematic_break = λ c f e h. none h;
       heading = λ level c f b e h. none h;
       quote = λ n q e h. none h;
-      item = λ marker n c q e h. item_start-marker items line m (e ∙ h);
-      table = λ n c e h. none h;
-      definitions = λ n c t e h. none h;
-      paragraph = λ n c t e h. none h;
+      footnote = λ label text n q e h. none h;
+      item = λ marker text n q f e h. item_start-marker items line m (e ∙ h);
+      html = λ end text c e h. none h;
+      table = λ text c w e h. none h;
+      definitions = λ text c w t e h. none h;
+      paragraph = λ text c w t e h. none h;
     })
   where
     none : None ≡ Some m → marker_of line ≡ Some m
@@ -126,10 +141,12 @@ start-quote nests items line later =
       thematic_break = λ c f e h. cc;
       heading = λ level c f b e h. cc;
       quote = λ text n q h. (n, q);
-      item = λ marker text n q e h. cc;
-      table = λ text none e h. cc;
-      definitions = λ text none t e h. cc;
-      paragraph = λ text none t e h. cc;
+      footnote = λ label text n q e h. cc;
+      item = λ marker text n q f e h. cc;
+      html = λ end text none e h. cc;
+      table = λ text none w e h. cc;
+      definitions = λ text none w t e h. cc;
+      paragraph = λ text none w t e h. cc;
     })
 
 pub start-marker : (nests : Bool) (items : Items) (line : LineText) (later : List LineText) (m : Marker) → block_start nests items line later ≡ start.Item m → (nests ≡ true) × (marker_of line ≡ Some m)
@@ -141,10 +158,12 @@ start-marker nests items line later m =
       thematic_break = λ c f e h. cc;
       heading = λ level c f b e h. cc;
       quote = λ text n q h. cc;
-      item = λ marker text n q e h. (n, item_start-marker items line m (e ∙ ap marker_at h));
-      table = λ text none e h. cc;
-      definitions = λ text none t e h. cc;
-      paragraph = λ text none t e h. cc;
+      footnote = λ label text n q e h. cc;
+      item = λ marker text n q f e h. (n, item_start-marker items line m (e ∙ ap marker_at h));
+      html = λ end text none e h. cc;
+      table = λ text none w e h. cc;
+      definitions = λ text none w t e h. cc;
+      paragraph = λ text none w t e h. cc;
     })
 
 pub start-table : (nests : Bool) (items : Items) (line : LineText) (later : List LineText) → block_start nests items line later ≡ start.Table → starts_table line later ≡ true
@@ -156,10 +175,12 @@ start-table nests items line later =
       thematic_break = λ c f e h. cc;
       heading = λ level c f b e h. cc;
       quote = λ text n q h. cc;
-      item = λ marker text n q e h. cc;
-      table = λ text none e h. e;
-      definitions = λ text none t e h. cc;
-      paragraph = λ text none t e h. cc;
+      footnote = λ label text n q e h. cc;
+      item = λ marker text n q f e h. cc;
+      html = λ end text none e h. cc;
+      table = λ text none w e h. e;
+      definitions = λ text none w t e h. cc;
+      paragraph = λ text none w t e h. cc;
     })
 
 pub start-definitions : (nests : Bool) (items : Items) (line : LineText) (later : List LineText) → block_start nests items line later ≡ start.Definitions → nests ≡ true
@@ -171,8 +192,31 @@ start-definitions nests items line later =
       thematic_break = λ c f e h. cc;
       heading = λ level c f b e h. cc;
       quote = λ text n q h. cc;
-      item = λ marker text n q e h. cc;
-      table = λ text none e h. cc;
-      definitions = λ text none t e h. and_left nests (starts_definitions line later) e;
-      paragraph = λ text none t e h. cc;
+      footnote = λ label text n q e h. cc;
+      item = λ marker text n q f e h. cc;
+      html = λ end text none e h. cc;
+      table = λ text none w e h. cc;
+      definitions = λ text none w t e h. and_left nests (starts_definitions line later) e;
+      paragraph = λ text none w t e h. cc;
+    })
+
+abbrev label_at : BlockStart → Option (List ℕ)
+label_at (start.Footnote label) = Some label
+label_at _ = None
+
+pub start-footnote : (nests : Bool) (items : Items) (line : LineText) (later : List LineText) (l : List ℕ) → block_start nests items line later ≡ start.Footnote l → (nests ≡ true) × (footnote_label line ≡ Some l)
+start-footnote nests items line later l =
+    each-start (λ s. s ≡ start.Footnote l → (nests ≡ true) × (footnote_label line ≡ Some l)) nests items line later
+    (record {
+      code = λ e h. cc;
+      fence = λ fence c e h. cc;
+      thematic_break = λ c f e h. cc;
+      heading = λ level c f b e h. cc;
+      quote = λ text n q h. cc;
+      footnote = λ label text n q e h. (n, e ∙ ap label_at h);
+      item = λ marker text n q f e h. cc;
+      html = λ end text none e h. cc;
+      table = λ text none w e h. cc;
+      definitions = λ text none w t e h. cc;
+      paragraph = λ text none w t e h. cc;
     })

@@ -7,6 +7,8 @@ use Rattle.md_rules.specs.ThematicBreaks.{is_thematic_break}
 use Rattle.md_rules.specs.Headings.{heading_level}
 use Rattle.md_rules.specs.Quotes.{quotes}
 use Rattle.md_rules.specs.Items.{may_interrupt}
+use Rattle.md_rules.specs.Footnotes.{footnote_label}
+use Rattle.md_rules.specs.Html.{html_end}
 use Rattle.md_rules.specs.Tables.{starts_table}
 use Rattle.md_rules.specs.Definitions.{starts_definitions}
 use Rattle.md_rules.specs.Starts.{item_start, place, rule_of}
@@ -23,7 +25,9 @@ holds nests items line later rule.Fence = is_some (fence_of line)
 holds nests items line later rule.ThematicBreak = is_thematic_break line
 holds nests items line later rule.Heading = is_some (heading_level line)
 holds nests items line later rule.Quote = nests && quotes line
+holds nests items line later rule.Footnote = nests && is_some (footnote_label line)
 holds nests items line later rule.Item = nests && is_some (item_start items line)
+holds nests items line later rule.Html = is_some (html_end line)
 holds nests items line later rule.Table = starts_table line later
 holds nests items line later rule.Definitions = nests && starts_definitions line later
 holds nests items line later rule.Paragraph = true

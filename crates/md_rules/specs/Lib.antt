@@ -8,6 +8,8 @@ pub mod ThematicBreaks
 pub mod Quotes
 pub mod Metadata
 pub mod Hung
+pub mod Footnotes
+pub mod Html
 pub mod Items
 pub mod Tables
 pub mod Definitions

@@ -8,7 +8,7 @@ use Rattle.md_rules.specs.Starts.{block_start, is_among, rule_of}
 
 -- a row goes on with a table: no other block begins there, where containers may stand or not
 abbrev pub is_row : Bool → LineText → Bool
-is_row nests line = has_cells line && not (is_among rule.Fence rule.Item (rule_of (block_start nests All line [])))
+is_row nests line = has_cells line && not (is_among rule.Fence rule.Html (rule_of (block_start nests All line [])))
 
 -- how many rows the lines begin with
 unfoldable pub row_count : Bool → List LineText → ℕ

@@ -8,9 +8,12 @@ use Rattle.md_rules.specs.ThematicBreaks.{is_thematic_break}
 use Rattle.md_rules.specs.Headings.{heading_level}
 use Rattle.md_rules.specs.Quotes.{quotes}
 use Rattle.md_rules.specs.Items.{may_interrupt, marker_of}
+use Rattle.md_rules.specs.Footnotes.{footnote_label}
+use Rattle.md_rules.specs.Html.{html_end}
 use Rattle.md_rules.specs.Tables.{starts_table}
 use Rattle.md_rules.specs.Definitions.{starts_definitions}
 use Rattle.md_rules.specs.declared.fence.Fence.{Fence}
+use Rattle.md_rules.specs.declared.html.HtmlEnd.{HtmlEnd}
 use Rattle.md_rules.specs.declared.item.Marker.{Marker}
 use Rattle.md_rules.specs.declared.rule.Rule.{Rule}
 use Rattle.md_rules.specs.declared.rule.Rule.TheVariants as rule
@@ -42,21 +45,30 @@ abbrev pub heading_or : Option HeadingLevel → BlockStart → BlockStart
 heading_or (Some level) others = start.Heading level
 heading_or None others = others
 
+abbrev pub footnote_or : Option (List ℕ) → BlockStart → BlockStart
+footnote_or (Some label) others = start.Footnote label
+footnote_or None others = others
+
 abbrev pub item_or : Option Marker → BlockStart → BlockStart
 item_or (Some marker) others = start.Item marker
 item_or None others = others
 
--- the rules that are asked where no quote or item begins; definition lists begin where containers may stand
+abbrev pub html_or : Option HtmlEnd → BlockStart → BlockStart
+html_or (Some end) others = start.Html end
+html_or None others = others
+
+-- the rules that are asked where no quote, footnote or item begins; definition lists begin where containers may stand
 abbrev pub start_of_text : Bool → LineText → List LineText → BlockStart
 start_of_text nests line later =
-    if starts_table line later then start.Table
+    html_or (html_end line)
+    (if starts_table line later then start.Table
     else if nests && starts_definitions line later then start.Definitions
-    else start.Paragraph
+    else start.Paragraph)
 
--- quotes and items, where containers may stand
+-- quotes, footnote definitions and items, where containers may stand
 abbrev pub container_or : Bool → Items → LineText → BlockStart → BlockStart
 container_or false items line others = others
-container_or true items line others = if quotes line then start.Quote else item_or (item_start items line) others
+container_or true items line others = if quotes line then start.Quote else footnote_or (footnote_label line) (item_or (item_start items line) others)
 
 abbrev pub block_start : Bool → Items → LineText → List LineText → BlockStart
 block_start nests items line later =
@@ -74,7 +86,9 @@ rule_of (start.Fence fence) = rule.Fence
 rule_of start.ThematicBreak = rule.ThematicBreak
 rule_of (start.Heading level) = rule.Heading
 rule_of start.Quote = rule.Quote
+rule_of (start.Footnote label) = rule.Footnote
 rule_of (start.Item marker) = rule.Item
+rule_of (start.Html end) = rule.Html
 rule_of start.Table = rule.Table
 rule_of start.Definitions = rule.Definitions
 rule_of start.Paragraph = rule.Paragraph
@@ -86,10 +100,12 @@ place rule.Fence = 1
 place rule.ThematicBreak = 2
 place rule.Heading = 3
 place rule.Quote = 4
-place rule.Item = 5
-place rule.Table = 6
-place rule.Definitions = 7
-place rule.Paragraph = 8
+place rule.Footnote = 5
+place rule.Item = 6
+place rule.Html = 7
+place rule.Table = 8
+place rule.Definitions = 9
+place rule.Paragraph = 10
 
 -- one of the rules from the one to the other
 abbrev pub is_among : Rule → Rule → Rule → Bool

@@ -10,7 +10,7 @@ use md_lines::Line;
 fn is_dashes(line: &Line) -> bool
     ensures { result ≡ is_dashes line.now }
 {
-    line.indent == 0 && is_same(trimmed(line.body), "---")
+    line.indent == 0 && is_same(trimmed(line.body).as_bytes(), b"---")
 }
 
 /// How many lines stand before the first of dashes.

@@ -52,25 +52,25 @@ pub fn quoted<'a>(alloc: Global, lines: &[Line<'a>]) -> Result<Vec<Line<'a>>, Al
 }
 
 /// Whether two texts are the same, ASCII case aside.
-pub(crate) fn is_same(text: &str, other: &str) -> bool
+pub(crate) fn is_same(text: &[u8], other: &[u8]) -> bool
     ensures { result ≡ is_same text.now other.now }
 {
     text.eq_ignore_ascii_case(other)
 }
 
 /// The kind of alert that a text names.
-fn kind_of(text: &str) -> Option<BlockQuoteKind>
+fn kind_of(text: &[u8]) -> Option<BlockQuoteKind>
     ensures { result ≡ kind_of text.now }
 {
-    if is_same(text, "[!NOTE]") {
+    if is_same(text, b"[!NOTE]") {
         Some(BlockQuoteKind::Note)
-    } else if is_same(text, "[!TIP]") {
+    } else if is_same(text, b"[!TIP]") {
         Some(BlockQuoteKind::Tip)
-    } else if is_same(text, "[!IMPORTANT]") {
+    } else if is_same(text, b"[!IMPORTANT]") {
         Some(BlockQuoteKind::Important)
-    } else if is_same(text, "[!WARNING]") {
+    } else if is_same(text, b"[!WARNING]") {
         Some(BlockQuoteKind::Warning)
-    } else if is_same(text, "[!CAUTION]") {
+    } else if is_same(text, b"[!CAUTION]") {
         Some(BlockQuoteKind::Caution)
     } else {
         None
@@ -84,7 +84,7 @@ fn alert_of(line: &Line) -> Option<BlockQuoteKind>
     if !is_shallow(line) {
         return None;
     }
-    kind_of(trimmed(line.body))
+    kind_of(trimmed(line.body).as_bytes())
 }
 
 /// The kind of alert that the lines of a quote, without their marks, begin with, or `None` where they begin with none.

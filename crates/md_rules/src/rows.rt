@@ -14,7 +14,7 @@ fn is_row(nests: bool, line: &Line) -> bool
     has_cells(line)
         && !block_start(nests, Items::All, line, &[])
             .rule()
-            .is_among(Rule::Fence, Rule::Item)
+            .is_among(Rule::Fence, Rule::Html)
 }
 
 /// How many rows of a table the lines begin with, where containers may stand or not.

@@ -10,7 +10,9 @@ pub enum Rule {
     ThematicBreak,
     Heading,
     Quote,
+    Footnote,
     Item,
+    Html,
     Table,
     Definitions,
     Paragraph,
@@ -27,10 +29,12 @@ impl Rule {
             Rule::ThematicBreak => 2,
             Rule::Heading => 3,
             Rule::Quote => 4,
-            Rule::Item => 5,
-            Rule::Table => 6,
-            Rule::Definitions => 7,
-            Rule::Paragraph => 8,
+            Rule::Footnote => 5,
+            Rule::Item => 6,
+            Rule::Html => 7,
+            Rule::Table => 8,
+            Rule::Definitions => 9,
+            Rule::Paragraph => 10,
         }
     }
 

@@ -6,7 +6,9 @@ ghost use Rattle.md_rules.specs.Starts.{block_start, container_or, counted, coun
 use crate::code::is_code;
 use crate::definitions::starts_definitions;
 use crate::fence::{Fence, fence_of};
+use crate::footnote::footnote_label;
 use crate::heading::heading_level;
+use crate::html::{HtmlEnd, html_end};
 use crate::item::{Marker, marker_of, may_interrupt};
 use crate::quote::quotes;
 use crate::rule::Rule;
@@ -14,6 +16,7 @@ use crate::table::starts_table;
 use crate::thematic_break::is_thematic_break;
 use md_lines::Line;
 use md_tree::HeadingLevel;
+use term_text::CowStr;
 
 /// Which items count.
 #[derive(Clone, Copy, Debug, PartialEq, Eq)]
@@ -35,8 +38,12 @@ pub enum BlockStart<'a> {
     /// A heading of this level.
     Heading(HeadingLevel),
     Quote,
+    /// The definition of the footnote of this label.
+    Footnote(CowStr<'a>),
     /// A list whose first item has this marker.
     Item(Marker),
+    /// An HTML block with this end.
+    Html(HtmlEnd),
     Table,
     /// A definition list whose first title is the line.
     Definitions,
@@ -55,7 +62,9 @@ impl<'a> BlockStart<'a> {
             BlockStart::ThematicBreak => Rule::ThematicBreak,
             BlockStart::Heading(_) => Rule::Heading,
             BlockStart::Quote => Rule::Quote,
+            BlockStart::Footnote(_) => Rule::Footnote,
             BlockStart::Item(_) => Rule::Item,
+            BlockStart::Html(_) => Rule::Html,
             BlockStart::Table => Rule::Table,
             BlockStart::Definitions => Rule::Definitions,
             BlockStart::Paragraph => Rule::Paragraph,
@@ -84,10 +93,13 @@ fn item_start(items: Items, line: &Line) -> Option<Marker>
     }
 }
 
-/// What begins at the line where no quote or item does, where containers may stand or not.
+/// What begins at the line where no quote, footnote or item does, where containers may stand or not.
 fn start_of_text<'a>(nests: bool, line: &Line<'a>, later: &[Line<'a>]) -> BlockStart<'a>
     ensures { result ≡ start_of_text nests line.now later.now }
 {
+    if let Some(end) = html_end(line) {
+        return BlockStart::Html(end);
+    }
     if starts_table(line, later) {
         BlockStart::Table
     } else if nests && starts_definitions(line, later) {
@@ -123,6 +135,9 @@ pub fn block_start<'a>(
     }
     if quotes(line) {
         return BlockStart::Quote;
+    }
+    if let Some(label) = footnote_label(line) {
+        return BlockStart::Footnote(label);
     }
     match item_start(items, line) {
         Some(marker) => BlockStart::Item(marker),

@@ -1,4 +1,4 @@
-use crate::tests::drawn;
+use crate::drawn::drawn;
 use crate::{ImageFallback, NoHighlight, Options, RenderError, from_events};
 use md_events::{Alignments, Event, Tag, TagEnd, well_formed};
 use std::alloc::{AllocError, Global};
@@ -280,7 +280,7 @@ fn notes_and_math_have_lines_of_their_own(rt: HostRuntime) -> Result<(), Fail> {
     ];
     assert_eq!(rt;
         shown(&rt, alloc, &others)?.as_str(),
-        "<?>|---|\n<?>|a|\n<?>|b|\n<?>|---|\n|\n|<p><dim>|\n<dim>|xy<dim>|\n|\n|$m$<?>|$$n<?>|\n|o$$<?>|\n|<i><dim>|\n"
+        "<metadata>|---|\n<metadata>|a|\n<metadata>|b|\n<metadata>|---|\n|\n|<p><dim>|\n<dim>|xy<dim>|\n|\n|$m$<math>|$$n<display>|\n|o$$<display>|\n|<i><dim>|\n"
     );
     Ok(())
 }

@@ -1,6 +1,8 @@
 //! The lines of styled spans that a Markdown text lays out.
 #![tactic(auto)]
 
+#[cfg(test)]
+mod drawn;
 mod environment;
 mod error;
 #[cfg(test)]

@@ -1,8 +1,7 @@
 // From texts and events to lines.
-ghost use Rattle.std.specs.Prelude.{◌≡◌, IsTrue, IfOk, IfErr, Some, None};
+ghost use Rattle.std.specs.Prelude.{◌≡◌, IfOk, IfErr, Some, None};
 ghost use Rattle.std.specs.Option.{option_map};
 ghost use Rattle.md_tree.specs.Parse.{tree_of};
-ghost use Rattle.md_events.specs.Built.{built};
 ghost use Rattle.md_events.specs.Blocks.{tree};
 ghost use Rattle.md_text.specs.Look.{look_of, default_look};
 ghost use Rattle.md_text.specs.Layout.{document_lines};
@@ -22,7 +21,6 @@ use term_text::Text;
 ///
 /// The only refusal is `Memory`.
 pub fn from_str<'a>(alloc: Global, input: &'a str) -> Result<Text<'a>, RenderError>
-    requires { IsTrue (built input.now) }
     ensures lines { IfOk result (λ text. text ≡ document_lines default_look (tree input.now)) }
     ensures memory { IfErr result (λ e. e ≡ RenderError.Memory) }
 {
@@ -38,7 +36,6 @@ pub fn from_str_with_options<'a, S: StyleSheet, H: Highlighter>(
     options: &Options<S>,
     highlighter: &H,
 ) -> Result<Text<'a>, RenderError>
-    requires { IsTrue (built input.now) }
     ensures lines { IfOk result (λ text. text
         ≡ document_lines (look_of options.now S.sheet (H.known highlighter.now) (H.answer highlighter.now)) (tree input.now)) }
     ensures memory { IfErr result (λ e. e ≡ RenderError.Memory) }

@@ -1,7 +1,7 @@
+use crate::drawn::{drawn, end, quote, start, text};
 use crate::render::laid_out;
-use crate::tests::{drawn, end, quote, start, text};
 use crate::{NoHighlight, Options, from_str_with_options};
-use md_events::{Alignments, Event, Tag, built};
+use md_events::{Alignments, Event, Tag};
 use std::alloc::{AllocError, Global};
 use std::test::Fail;
 use term_text::{Alignment, CowStr, Text};
@@ -195,7 +195,6 @@ fn tables_of_texts_are_drawn(rt: HostRuntime) -> Result<(), Fail> {
         ),
     ];
     for (input, dividers, want) in rows {
-        assert!(rt; built(input), "{input:?}");
         let options = Options::default()
             .table_width(12)
             .table_row_dividers(dividers);
@@ -209,7 +208,6 @@ fn tables_of_texts_are_drawn(rt: HostRuntime) -> Result<(), Fail> {
 #[test]
 fn a_table_of_a_text_has_the_styles_of_the_sheet(rt: HostRuntime) -> Result<(), Fail> {
     let input = "| Name | 漢 |\n|:---|-:|\n| API | b |";
-    assert!(rt; built(input));
     let text = from_str_with_options(rt.alloc(), input, &Options::default(), &NoHighlight)?;
     let drawn = drawn(rt.alloc(), &text)?;
     assert_eq!(rt;

@@ -1,113 +1,13 @@
+use crate::drawn::{drawn, end, quote, start, text};
 use crate::render::laid_out;
 use crate::{
     AlertKind, AnsiFence, CustomSheet, DefaultStyleSheet, Highlighter, NoHighlight, Options,
     RenderError, StyleSheet, from_str, from_str_with_options,
 };
-use md_events::{
-    Attrs, BlockQuoteKind, Classes, CodeBlockKind, Event, HeadingLevel, Tag, TagEnd, built,
-};
+use md_events::{Attrs, BlockQuoteKind, Classes, CodeBlockKind, Event, HeadingLevel, Tag, TagEnd};
 use std::alloc::{AllocError, Global};
 use std::test::Fail;
-use term_text::{CowStr, Line, Style, Text};
-
-// The name that stands beside a style.
-fn name_among(style: Style, names: &[(Style, &'static str)]) -> Option<&'static str> {
-    for (named, name) in names {
-        if style == *named {
-            return Some(*name);
-        }
-    }
-    None
-}
-
-// The names stand in small tables: what a check of one table costs grows by the square of its calls.
-fn name_of_modifiers(style: Style) -> Option<&'static str> {
-    let plain = Style::new();
-    let names = [
-        (plain, ""),
-        (plain.italic(), "<italic>"),
-        (plain.bold(), "<bold>"),
-        (plain.crossed_out(), "<struck>"),
-        (plain.dim().italic(), "<script>"),
-        (plain.italic().bold(), "<bold italic>"),
-    ];
-    name_among(style, names.as_slice())
-}
-
-fn name_of_colours(style: Style) -> Option<&'static str> {
-    let names = [
-        (Style::reset(), "<reset>"),
-        (Style::new().red(), "<red>"),
-        (Style::reset().red(), "<reset red>"),
-    ];
-    name_among(style, names.as_slice())
-}
-
-fn name_in_text(style: Style) -> Option<&'static str> {
-    let sheet = DefaultStyleSheet;
-    let names = [
-        (sheet.heading(1), "<h1>"),
-        (sheet.heading(2), "<h2>"),
-        (sheet.heading_meta(), "<dim>"),
-        (sheet.code(), "<code>"),
-        (sheet.link(), "<link>"),
-        (sheet.link().bold(), "<bold link>"),
-    ];
-    name_among(style, names.as_slice())
-}
-
-fn name_in_containers(style: Style) -> Option<&'static str> {
-    let sheet = DefaultStyleSheet;
-    let note = sheet.alert(AlertKind::Note);
-    let names = [
-        (sheet.blockquote(), "<quote>"),
-        (note, "<note>"),
-        (note.bold(), "<bold note>"),
-        (sheet.alert(AlertKind::Tip).bold(), "<bold quote>"),
-        (sheet.heading(1).patch(sheet.blockquote()), "<h1 quote>"),
-        (sheet.list_marker(), "<marker>"),
-        (sheet.table_border(), "<border>"),
-    ];
-    name_among(style, names.as_slice())
-}
-
-// The name of a style that the tests use, and none for the plain one.
-fn style_name(style: Style) -> &'static str {
-    if let Some(name) = name_of_modifiers(style) {
-        return name;
-    }
-    if let Some(name) = name_in_text(style) {
-        return name;
-    }
-    if let Some(name) = name_in_containers(style) {
-        return name;
-    }
-    name_of_colours(style).unwrap_or("<?>")
-}
-
-fn draw_line(drawn: &mut String, line: &Line) -> Result<(), AllocError> {
-    drawn.push_str(style_name(line.style()))?;
-    for span in line.spans() {
-        drawn.push_str("|")?;
-        drawn.push_str(span.text())?;
-        drawn.push_str(style_name(span.style()))?;
-    }
-    drawn.push_str("|\n")?;
-    Ok(())
-}
-
-// The spans of each line between bars, with the names of styles behind them and before the line.
-pub(crate) fn drawn(alloc: Global, text: &Text) -> Result<String, AllocError> {
-    let mut drawn = String::new(alloc);
-    for line in text.lines() {
-        draw_line(&mut drawn, line)?;
-    }
-    Ok(drawn)
-}
-
-pub(crate) fn text(content: &'static str) -> Event<'static> {
-    Event::Text(CowStr::borrowed(content))
-}
+use term_text::CowStr;
 
 // The lines of events in the default look.
 fn drawn_events(alloc: Global, events: &[Event]) -> Result<String, AllocError> {
@@ -127,7 +27,6 @@ fn paragraphs_and_breaks_are_lines_and_spans(rt: HostRuntime) -> Result<(), Fail
         ("\na  \nb\n\n\nc\n", "|a|\n|b|\n|\n|c|\n"),
     ];
     for (input, want) in rows {
-        assert!(rt; built(input), "{input:?}");
         let text = from_str(rt.alloc(), input)?;
         let drawn = drawn(rt.alloc(), &text)?;
         assert_eq!(rt; drawn.as_str(), want, "{input:?}");
@@ -138,7 +37,6 @@ fn paragraphs_and_breaks_are_lines_and_spans(rt: HostRuntime) -> Result<(), Fail
 #[test]
 fn plain_text_asks_nothing_of_options_and_highlighter(rt: HostRuntime) -> Result<(), Fail> {
     let input = "ab\ncd";
-    assert!(rt; built(input));
     let options = Options::new(DefaultStyleSheet);
     let text = from_str_with_options(rt.alloc(), input, &options, &AnsiFence)?;
     let drawn = drawn(rt.alloc(), &text)?;
@@ -390,19 +288,6 @@ fn a_highlighter_of_ones_own_is_asked_for_each_line(rt: HostRuntime) -> Result<(
         assert_eq!(rt; drawn.as_str(), want, "{info}");
     }
     Ok(())
-}
-
-// The events of the start and of the end of an element.
-pub(crate) fn start(tag: Tag<'static>) -> Event<'static> {
-    Event::Start(tag)
-}
-
-pub(crate) fn end(tag: Tag<'static>) -> Event<'static> {
-    Event::End(tag.end())
-}
-
-pub(crate) fn quote() -> Tag<'static> {
-    Tag::BlockQuote(None)
 }
 
 #[test]

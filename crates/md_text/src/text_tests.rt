@@ -1,9 +1,8 @@
-use crate::tests::drawn;
+use crate::drawn::drawn;
 use crate::{
-    AlertKind, AnsiFence, CustomSheet, Highlighter, NoHighlight, Options, from_str,
+    AlertKind, AnsiFence, CustomSheet, Highlighter, ImageFallback, NoHighlight, Options, from_str,
     from_str_with_options,
 };
-use md_events::built;
 use std::test::Fail;
 
 #[test]
@@ -28,7 +27,6 @@ fn inlines_and_headings_of_texts_are_drawn(rt: HostRuntime) -> Result<(), Fail> 
         ("# {#i}", "<h1>|# | {#i}<dim>|\n"),
     ];
     for (input, want) in rows {
-        assert!(rt; built(input), "{input:?}");
         let text = from_str(rt.alloc(), input)?;
         let drawn = drawn(rt.alloc(), &text)?;
         assert_eq!(rt; drawn.as_str(), want, "{input:?}");
@@ -48,7 +46,6 @@ fn coloured_code_of_texts_is_drawn(rt: HostRuntime) -> Result<(), Fail> {
         ),
     ];
     for (input, want) in rows {
-        assert!(rt; built(input), "{input:?}");
         let text = from_str_with_options(rt.alloc(), input, &Options::default(), &AnsiFence)?;
         let drawn = drawn(rt.alloc(), &text)?;
         assert_eq!(rt; drawn.as_str(), want, "{input:?}");
@@ -73,7 +70,6 @@ fn code_of_texts_is_drawn(rt: HostRuntime) -> Result<(), Fail> {
         ),
     ];
     for (input, want) in rows {
-        assert!(rt; built(input), "{input:?}");
         let text = from_str(rt.alloc(), input)?;
         let drawn = drawn(rt.alloc(), &text)?;
         assert_eq!(rt; drawn.as_str(), want, "{input:?}");
@@ -99,11 +95,64 @@ fn containers_of_texts_are_drawn(rt: HostRuntime) -> Result<(), Fail> {
         ),
     ];
     for (input, want) in rows {
-        assert!(rt; built(input), "{input:?}");
         let text = from_str(rt.alloc(), input)?;
         let drawn = drawn(rt.alloc(), &text)?;
         assert_eq!(rt; drawn.as_str(), want, "{input:?}");
     }
+    Ok(())
+}
+
+#[test]
+fn forms_beside_running_text_have_lines_and_styles_of_their_own(
+    rt: HostRuntime,
+) -> Result<(), Fail> {
+    let rows = [
+        (
+            "---\ntitle: Demo\n---\n\nBody",
+            "<metadata>|---|\n<metadata>|title: Demo|\n<metadata>|---|\n|\n|Body|\n",
+        ),
+        (
+            "---\r\ntitle: Demo\r\n---\r\n\r\nBody",
+            "<metadata>|---|\n<metadata>|title: Demo|\n<metadata>|---|\n|\n|Body|\n",
+        ),
+        (
+            "Before\n\n$$\nx = y\ny = z\n$$\n\nAfter",
+            "|Before|\n|\n|$$<display>|\n|x = y<display>|\n|y = z<display>|\n|$$<display>|\n|\n|After|\n",
+        ),
+        ("a $$m$$ b", "|a |$$m$$<display>|\n| b|\n"),
+        (
+            "Term\n: First paragraph.\n\n  Second paragraph.",
+            "|Term<bold>|\n|: |First paragraph.|\n|\n|Second paragraph.|\n",
+        ),
+        (
+            "Text[^one]\n\n[^one]: First paragraph.\n\n    Second paragraph.",
+            "|Text|[one]<script>|\n|\n<dim>|[one]: <dim>|First paragraph.|\n<dim>|\n<dim>|Second paragraph.|\n",
+        ),
+        ("<http://a.b>", "|http://a.b<link>| (|http://a.b<link>|)|\n"),
+        ("x ![](u) y", "|x |[img] <script>|u<script>| y|\n"),
+        (
+            "> x\n> <div>\n> *a*\n\n*b* <i>",
+            "<quote>|>| |x|\n<quote>|>| |\n<quote>|>| |<div><dim>|\n<dim>|>| |*a*<dim>|\n|\n|b<italic>| |<i><dim>|\n",
+        ),
+    ];
+    for (input, want) in rows {
+        let text = from_str(rt.alloc(), input)?;
+        let drawn = drawn(rt.alloc(), &text)?;
+        assert_eq!(rt; drawn.as_str(), want, "{input:?}");
+    }
+    Ok(())
+}
+
+#[test]
+fn an_image_of_a_text_shows_what_the_options_say(rt: HostRuntime) -> Result<(), Fail> {
+    let input = "![Architecture diagram](diagram.png)";
+    let options = Options::default().image_fallback(ImageFallback::AltTextAndUrl);
+    let text = from_str_with_options(rt.alloc(), input, &options, &NoHighlight)?;
+    let drawn = drawn(rt.alloc(), &text)?;
+    assert_eq!(rt;
+        drawn.as_str(),
+        "|[img] <script>|Architecture diagram<script>| (diagram.png)<script>|\n"
+    );
     Ok(())
 }
 
@@ -125,7 +174,6 @@ fn a_sheet_without_marks_shows_what_they_mark(rt: HostRuntime) -> Result<(), Fai
         ),
     ];
     for (input, want) in rows {
-        assert!(rt; built(input), "{input:?}");
         let text = from_str_with_options(rt.alloc(), input, &options, &NoHighlight)?;
         let drawn = drawn(rt.alloc(), &text)?;
         assert_eq!(rt; drawn.as_str(), want, "{input:?}");

@@ -2,7 +2,15 @@
 #![tactic(auto)]
 
 #[cfg(test)]
+mod answers;
+#[cfg(test)]
+mod counts;
+#[cfg(test)]
+mod events;
+#[cfg(test)]
 mod example;
+#[cfg(test)]
+mod readme;
 #[cfg(test)]
 mod runs;
 #[cfg(test)]

@@ -4,7 +4,7 @@ use Rattle.std.specs.Prelude.{◌⊎◌, Option, Some, None, IfSome, IsSomeAnd}
 use Rattle.std.specs.Io.KnownBytes.{Consumes, Appends, IsAtEnd}
 use Rattle.ends.specs.Causes.{Rose, NoFault}
 use Rattle.programs.specs.declared.status.Status.{Status}
-use Rattle.programs.specs.declared.status.Status.TheVariants.{Done, Usage, ReadFault, TooLong, NotUtf8, TooNarrow, WriteFault, Memory, Unbuilt}
+use Rattle.programs.specs.declared.status.Status.TheVariants.{Done, Usage, ReadFault, TooLong, NotUtf8, TooNarrow, WriteFault, Memory}
 use Rattle.programs.specs.Status.{code_of}
 use Rattle.programs.specs.Reading.{Change, TookAll, Stopped, limit}
 use Rattle.programs.specs.Writing.{WroteAll, WroteSome}
@@ -23,7 +23,7 @@ apart a b e = ap code_of e
 
 -- there is none of the causes why bytes have no output
 abbrev pub HasNoCause : {J : Type 0} → (J → Status → List ℕ → Type 0) → J → List ℕ → Type 0
-HasNoCause Cause job bytes = (Cause job NotUtf8 bytes → ⊥) × (Cause job TooNarrow bytes → ⊥) × (Cause job Unbuilt bytes → ⊥)
+HasNoCause Cause job bytes = (Cause job NotUtf8 bytes → ⊥) × (Cause job TooNarrow bytes → ⊥)
 
 module _ {J : Type 0} (Cause : J → Status → List ℕ → Type 0) (shown : J → List ℕ → List ℕ) (r w : Change)
     (unread untouched : Type 0) where
@@ -74,13 +74,6 @@ module _ {J : Type 0} (Cause : J → Status → List ℕ → Type 0) (shown : J 
       let read = subst (λ s. HasRead (Cause job) s r h.taken) e h.read in
       told P r.old r.new h.taken h.took read.0.end (known job h.taken read.1)
 
-  pub unbuilt_says : (P : List ℕ → Type 0) → ((job : J) (bytes : List ℕ) → Cause job Unbuilt bytes → P bytes) → (o : Option J) (status : Status)
-      → Runs o status → status ≡ Unbuilt → IfSome r.old (λ bytes. IsAtEnd r.new × P bytes)
-  unbuilt_says P known None status h e = absurd (omega (arith, apart Usage Unbuilt (sym h.0 ∙ e)))
-  unbuilt_says P known (Some job) status h e =
-      let read = subst (λ s. HasRead (Cause job) s r h.taken) e h.read in
-      told P r.old r.new h.taken h.took read.0.end (known job h.taken read.1)
-
   pub too_narrow_says : (o : Option J) (status : Status) → Runs o status → (job : J) → o ≡ Some job → status ≡ TooNarrow
       → IfSome r.old (λ bytes. IsAtEnd r.new × Cause job TooNarrow bytes)
   too_narrow_says None status h job e d = cc
@@ -122,7 +115,6 @@ module _ {J : Type 0} (Cause : J → Status → List ℕ → Type 0) (shown : J 
   fewer job TooNarrow taken h = inl h.0.short
   fewer job WriteFault taken h = inl h.0.short
   fewer job Memory taken h = inr (inr refl)
-  fewer job Unbuilt taken h = inl h.0.short
 
   pub only_too_long_says : (o : Option J) (status : Status) → Runs o status → (unread → r.new ≡ r.old)
       → IfSome r.old (λ bytes. IfSome r.new (λ rest. length bytes ≡ length rest + (limit + 1) → (status ≡ TooLong) ⊎ (status ≡ Memory)))
@@ -155,7 +147,6 @@ module _ {J : Type 0} (Cause : J → Status → List ℕ → Type 0) (shown : J 
       each TooNarrow output k done fault = k
       each WriteFault output k done fault = absurd (fault refl)
       each Memory output k done fault = k
-      each Unbuilt output k done fault = k
 
   -- what a run over a source that has an output ends with
   complete_by : (job : J) (status : Status) (taken : List ℕ) (output : List ℕ) → HasRead (Cause job) status r taken → HasWritten status w output untouched
@@ -168,7 +159,6 @@ module _ {J : Type 0} (Cause : J → Status → List ℕ → Type 0) (shown : J 
   complete_by job TooNarrow taken output h k short can rf wf = absurd ((can h.0).1 h.1)
   complete_by job WriteFault taken output h k short can rf wf = absurd (wf k.cause)
   complete_by job Memory taken output h k short can rf wf = inr refl
-  complete_by job Unbuilt taken output h k short can rf wf = absurd ((can h.0).2 h.1)
 
   pub complete_says : ((job : J) (bytes : List ℕ) → Cause job Done bytes → HasNoCause Cause job bytes) → (o : Option J) (status : Status) → Runs o status
       → (job : J) → o ≡ Some job → IsSomeAnd r.old (λ bytes. (length bytes ≤ limit) × Cause job Done bytes)

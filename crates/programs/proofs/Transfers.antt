@@ -4,7 +4,7 @@ use Rattle.std.specs.Prelude.{Option, Some, None, Bool, false}
 use Rattle.std.specs.Io.KnownBytes.{Appends, Consumes, Keeps}
 use Rattle.std.proofs.lemmas.List.{take_at, take-append-drop, take_rest}
 use Rattle.programs.specs.declared.status.Status.{Status}
-use Rattle.programs.specs.declared.status.Status.TheVariants.{Done, Usage, ReadFault, TooLong, NotUtf8, TooNarrow, WriteFault, Memory, Unbuilt}
+use Rattle.programs.specs.declared.status.Status.TheVariants.{Done, Usage, ReadFault, TooLong, NotUtf8, TooNarrow, WriteFault, Memory}
 use Rattle.programs.specs.Reading.{TookAll, Stopped, StopsReading, IsStep, StopsStep, limit}
 use Rattle.programs.specs.Writing.{WroteAll, WroteSome}
 use Rattle.ends.specs.Causes.{Rose, NoFault}
@@ -102,7 +102,6 @@ stops_sooner NotUtf8 old middle new before then now taken e h = h
 stops_sooner TooNarrow old middle new before then now taken e h = h
 stops_sooner WriteFault old middle new before then now taken e h = h
 stops_sooner Memory old middle new before then now taken e h = (h.0, h.1 ∙ e)
-stops_sooner Unbuilt old middle new before then now taken e h = h
 
 pub reads_stop : (status : Status) (old middle new : Option (List ℕ)) (before then now : ℕ) (bytes : List ℕ) → ReadsOn old middle before then bytes
     → StopsStep status (record { old = middle; new = new; before = then; now = now }) bytes → Stopped status (record { old = old; new = new; before = before; now = now })

@@ -4,7 +4,7 @@ use Rattle.std.specs.Prelude.{◌≡◌, ℕ, ◌+◌, ◌≤◌, List, length, 
 use Rattle.std.specs.Io.KnownBytes.{Consumes}
 use Rattle.ends.specs.Causes.{Rose, NoFault}
 use Rattle.programs.specs.declared.status.Status.{Status}
-use Rattle.programs.specs.declared.status.Status.TheVariants.{Done, Usage, ReadFault, TooLong, NotUtf8, TooNarrow, WriteFault, Memory, Unbuilt}
+use Rattle.programs.specs.declared.status.Status.TheVariants.{Done, Usage, ReadFault, TooLong, NotUtf8, TooNarrow, WriteFault, Memory}
 use Rattle.programs.specs.Reading.{Change, TookAll, limit}
 use Rattle.programs.specs.Writing.{WroteAll, WroteSome}
 
@@ -19,7 +19,6 @@ HasRead Cause NotUtf8 r taken = TookAll r taken × Cause NotUtf8 taken
 HasRead Cause TooNarrow r taken = TookAll r taken × Cause TooNarrow taken
 HasRead Cause WriteFault r taken = TookAll r taken × Cause Done taken
 HasRead Cause Memory r taken = (length taken ≤ limit + 1) × NoFault r.before r.now
-HasRead Cause Unbuilt r taken = TookAll r taken × Cause Unbuilt taken
 
 -- what was written of the output, by the last status: all of it, a part of it, or nothing; `untouched` says that the
 -- sink is as it was
@@ -32,7 +31,6 @@ HasWritten TooLong w output untouched = untouched
 HasWritten NotUtf8 w output untouched = untouched
 HasWritten TooNarrow w output untouched = untouched
 HasWritten Memory w output untouched = untouched
-HasWritten Unbuilt w output untouched = untouched
 
 -- the run of a job over a source
 pub record Shows (Cause : Status → List ℕ → Type 0) (output : List ℕ → List ℕ) (status : Status) (reading writing : Change)

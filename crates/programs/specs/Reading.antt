@@ -3,7 +3,7 @@ use Rattle.std.specs.Prelude.{◌≡◌, ℕ, ◌+◌, ◌<◌, ◌≤◌, List,
 use Rattle.std.specs.Io.KnownBytes.{Consumes, IsAtEnd}
 use Rattle.ends.specs.Causes.{Rose, NoFault}
 use Rattle.programs.specs.declared.status.Status.{Status}
-use Rattle.programs.specs.declared.status.Status.TheVariants.{Done, Usage, ReadFault, TooLong, NotUtf8, TooNarrow, WriteFault, Memory, Unbuilt}
+use Rattle.programs.specs.declared.status.Status.TheVariants.{Done, Usage, ReadFault, TooLong, NotUtf8, TooNarrow, WriteFault, Memory}
 
 -- the greatest number of bytes that a run reads
 abbrev pub limit : ℕ
@@ -37,7 +37,6 @@ StopsReading Usage r taken = ⊥
 StopsReading NotUtf8 r taken = ⊥
 StopsReading TooNarrow r taken = ⊥
 StopsReading WriteFault r taken = ⊥
-StopsReading Unbuilt r taken = ⊥
 
 -- a reader of a whole source stopped before the end
 pub record Stopped (status : Status) (reading : Change) : Type 0 where

@@ -1,7 +1,7 @@
 -- The code and the text of a status.
 use Rattle.std.specs.Prelude.{ℕ, List, [], codes}
 use Rattle.programs.specs.declared.status.Status.{Status}
-use Rattle.programs.specs.declared.status.Status.TheVariants.{Done, Usage, ReadFault, TooLong, NotUtf8, TooNarrow, WriteFault, Memory, Unbuilt}
+use Rattle.programs.specs.declared.status.Status.TheVariants.{Done, Usage, ReadFault, TooLong, NotUtf8, TooNarrow, WriteFault, Memory}
 
 abbrev pub code_of : Status → ℕ
 code_of Done = 0
@@ -12,7 +12,6 @@ code_of NotUtf8 = 5
 code_of TooNarrow = 6
 code_of WriteFault = 7
 code_of Memory = 8
-code_of Unbuilt = 9
 
 abbrev pub text_of : Status → List ℕ
 text_of Done = []
@@ -23,4 +22,3 @@ text_of NotUtf8 = codes "mdview: input is not UTF-8"
 text_of TooNarrow = codes "mdview: a character is wider than the page"
 text_of WriteFault = codes "mdview: writing failed"
 text_of Memory = codes "mdview: out of memory"
-text_of Unbuilt = codes "mdview: this form is not built yet"

@@ -21,8 +21,6 @@ pub enum Status {
     WriteFault,
     /// There was not enough memory; nothing was written.
     Memory,
-    /// The text has a form that is not built yet.
-    Unbuilt,
 }
 
 impl Status {
@@ -39,7 +37,6 @@ impl Status {
             Status::TooNarrow => 6,
             Status::WriteFault => 7,
             Status::Memory => 8,
-            Status::Unbuilt => 9,
         }
     }
 
@@ -56,7 +53,6 @@ impl Status {
             Status::TooNarrow => "mdview: a character is wider than the page",
             Status::WriteFault => "mdview: writing failed",
             Status::Memory => "mdview: out of memory",
-            Status::Unbuilt => "mdview: this form is not built yet",
         }
     }
 }

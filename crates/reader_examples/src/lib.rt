@@ -14,4 +14,6 @@ mod lines;
 #[cfg(test)]
 mod rules;
 #[cfg(test)]
+mod shown;
+#[cfg(test)]
 mod trees;

@@ -1,8 +1,8 @@
 //! The tests of the block rules on lines.
 use md_lines::{Line, line_of, lines_of};
 use md_rules::{
-    BlockStart, Cells, Items, Rule, alignments, block_start, heading_at, interrupts, item_lines,
-    marker_of, quoted, row_count, starts_table, text_from,
+    BlockStart, Cells, HtmlEnd, Items, Rule, alignments, block_start, footnote_label, heading_at,
+    html_end, interrupts, item_lines, marker_of, quoted, row_count, starts_table, text_from,
 };
 use std::alloc::{AllocError, Global};
 use std::test::Fail;
@@ -62,10 +62,19 @@ fn a_line_begins_by_the_first_rule_that_holds(rt: HostRuntime) -> Result<(), Fai
         ("# a | b\n-|-", true, Rule::Heading),
         ("> - a", true, Rule::Quote),
         ("> - a", false, Rule::Paragraph),
+        ("[^1]: a | b\n-|-", true, Rule::Footnote),
+        ("[^1]: a | b\n-|-", false, Rule::Table),
+        ("[^1]:\n: b", true, Rule::Footnote),
+        ("[^ 1]: a", true, Rule::Paragraph),
         ("2. a | b\n-|-", true, Rule::Item),
         ("2. a | b\n-|-", false, Rule::Table),
         ("2. a\n: b", true, Rule::Item),
         ("2. a\n: b", false, Rule::Paragraph),
+        ("<p> a | b\n-|-", true, Rule::Html),
+        ("<p>\n: b", false, Rule::Html),
+        ("- <p>", true, Rule::Item),
+        ("- <p>", false, Rule::Paragraph),
+        ("    <p>", true, Rule::Code),
         ("a\n: b", true, Rule::Definitions),
         ("a", true, Rule::Paragraph),
     ];
@@ -97,6 +106,11 @@ fn some_blocks_end_a_paragraph(rt: HostRuntime) -> Result<(), Fail> {
         ("a\n:\tb", false, false),
         (": a\n: b", true, false),
         ("    a", true, false),
+        ("[^1]:", true, true),
+        ("[^1]:", false, false),
+        ("</DIV>", true, true),
+        ("<span>", true, false),
+        ("<!--", false, true),
     ];
     for (text, nests, ends) in rows {
         let lines = lines_of(rt.alloc(), text)?;
@@ -144,12 +158,73 @@ fn rows_end_where_another_block_begins(rt: HostRuntime) -> Result<(), Fail> {
         ("2. | a", true, 0),
         ("2. | a", false, 1),
         ("    | a |", true, 0),
+        ("<p> | a", false, 0),
+        ("<b> | a", false, 1),
+        ("[^1]: | a", true, 0),
+        ("[^1]: | a", false, 1),
     ];
     for (text, nests, count) in rows {
         let lines = lines_of(rt.alloc(), text)?;
         assert_eq!(rt; row_count(nests, lines.as_slice()), count, "{text}");
     }
     Ok(())
+}
+
+#[test]
+fn html_blocks_begin_at_tags_of_these_elements(rt: HostRuntime) {
+    let rows = [
+        ("<pre", Some(HtmlEnd::RawElement)),
+        ("   <SCRIPT>alert", Some(HtmlEnd::RawElement)),
+        ("<style\ttype", Some(HtmlEnd::RawElement)),
+        ("<pre/>", None),
+        ("</pre>", None),
+        ("<prefix>", None),
+        ("<!-- a", Some(HtmlEnd::Comment)),
+        ("<!-->", Some(HtmlEnd::Comment)),
+        ("<! --", None),
+        ("<address", Some(HtmlEnd::EmptyLine)),
+        ("</ul >", Some(HtmlEnd::EmptyLine)),
+        ("<h6>a", Some(HtmlEnd::EmptyLine)),
+        ("<h7>a", None),
+        ("<Hr/>", Some(HtmlEnd::EmptyLine)),
+        ("<hr/a", None),
+        ("<hr /a", Some(HtmlEnd::EmptyLine)),
+        ("<//hr>", None),
+        ("< div>", None),
+        ("<div-a>", None),
+        ("<divs>", None),
+        ("<span>", None),
+        ("<>", None),
+        ("<", None),
+        ("a<div>", None),
+        ("    <div>", None),
+    ];
+    for (text, end) in rows {
+        assert_eq!(rt; html_end(&line_of(text)), end, "{text}");
+    }
+}
+
+#[test]
+fn a_footnote_has_a_label_of_its_own(rt: HostRuntime) {
+    let rows = [
+        ("[^1]: a", Some("1")),
+        ("  [^x-y]:a", Some("x-y")),
+        ("[^\u{e9}!]:", Some("\u{e9}!")),
+        ("[^^]::", Some("^")),
+        ("[^]: a", None),
+        ("[^a b]: c", None),
+        ("[^a\tb]: c", None),
+        ("[^a[b]: c", None),
+        ("[^a]", None),
+        ("[^a] : b", None),
+        ("[a]: b", None),
+        ("[^a", None),
+        ("    [^a]: b", None),
+    ];
+    for (text, label) in rows {
+        let found = footnote_label(&line_of(text));
+        assert_eq!(rt; found.as_ref().map(|label| label.as_str()), label, "{text}");
+    }
 }
 
 /// The cells of a line, each in brackets.

@@ -1,6 +1,6 @@
 use Rattle.std.proofs.Common.{ap}
 use Rattle.std.specs.Prelude.{IfSome}
-use Rattle.programs.proofs.Endings.{usage_says, refused_words_say, done_says, no_fault_says, read_fault_says, not_utf8_says, unbuilt_says, too_narrow_says, write_fault_says, too_long_says, only_too_long_says, untouched_says, complete_says}
+use Rattle.programs.proofs.Endings.{usage_says, refused_words_say, done_says, no_fault_says, read_fault_says, not_utf8_says, too_narrow_says, write_fault_says, too_long_says, only_too_long_says, untouched_says, complete_says}
 use Rattle.md_page.proofs.Causes.{no_cause}
 use Rattle.ansi_page.proofs.Weaker.{ran-weaker, done-parts}
 use Rattle.ansi_page.proofs.program.run_ansi.Goals as goal
@@ -28,9 +28,6 @@ returns-clause-only_too_long g c = only_too_long_says _ _ _ _ _ _ _ _ c.run_word
 
 pub returns-clause-not_utf8 : goal.returns-clause-not_utf8
 returns-clause-not_utf8 g c = not_utf8_says _ _ _ _ _ _ _ (λ job bytes cause. cause) _ _ c.run_words.ensures.ran
-
-pub returns-clause-unbuilt : goal.returns-clause-unbuilt
-returns-clause-unbuilt g c = unbuilt_says _ _ _ _ _ _ _ (λ job bytes cause. cause) _ _ c.run_words.ensures.ran
 
 pub returns-clause-too_narrow : goal.returns-clause-too_narrow
 returns-clause-too_narrow g c = too_narrow_says _ _ _ _ _ _ _ _ c.run_words.ensures.ran

@@ -6,13 +6,15 @@ use Rattle.md_rules.specs.declared.start.BlockStart.TheVariants as start
 use Rattle.md_rules.specs.declared.start.Items.TheVariants.{All}
 use Rattle.md_rules.specs.Code.{hanging}
 use Rattle.md_rules.proofs.StartLemmas.{start-table}
-use Rattle.md_events.specs.CodeBlocks.{code_lines}
+use Rattle.md_events.specs.declared.kept.Kept.TheVariants.{Html, Text}
+use Rattle.md_events.specs.Kept.{kept_lines}
 use Rattle.std.specs.Result.{OnOk}
 use Rattle.md_tree.specs.declared.event.Event.{Event}
 use Rattle.md_tree.specs.declared.event.Event.TheVariants.{End}
 use Rattle.md_tree.specs.declared.event.Tag.TheVariants as tag
 use Rattle.md_tree.specs.declared.event.TagEnd.TheVariants as end
 use Rattle.md_tree.specs.Tree.{Branch, Empty, events}
+use Rattle.md_rules.specs.Html.{html_more}
 use Rattle.md_rules.specs.Items.{item_more}
 use Rattle.md_rules.specs.Lists.{list_more, next_item}
 use Rattle.md_events.specs.Node.{block_events, run_then}
@@ -21,7 +23,7 @@ use Rattle.md_events.specs.Blocks.{blocks, paragraph_more}
 use Rattle.md_events.specs.Written.{empty_front, front_paragraph, nests}
 use Rattle.md_rules.proofs.ListLemmas.{next_item-marker}
 use Rattle.md_rules.proofs.Slices.{length-slice, slice-rest}
-use Rattle.md_events.proofs.ContainerSteps.{first_marker-some, item-turn, item-written, items-empty-turn, items-end, items-stop, list-written, quote-lines, quote-within, quote-written}
+use Rattle.md_events.proofs.ContainerSteps.{first_marker-some, footnote-written, item-turn, item-written, items-empty-turn, items-end, items-stop, list-written, quote-lines, quote-within, quote-written}
 use Rattle.md_rules.specs.declared.entry.Entry.{Entry}
 use Rattle.md_rules.specs.Entries.{entry_more, next_entry}
 use Rattle.md_rules.proofs.EntryLemmas.{next_entry-description}
@@ -29,7 +31,7 @@ use Rattle.md_events.specs.Definitions.{entries, entry_tag, in_entry, in_title}
 use Rattle.md_events.proofs.DefinitionSteps.{definitions-written, description-written, entries-empty-turn, entries-end, entries-stop, entry-turn}
 use Rattle.md_events.proofs.TaskSteps.{mark-first, marked-blocks}
 use Rattle.md_events.proofs.Steps.{block-turn, blocks-end, empty-turn}
-use Rattle.md_events.proofs.RuleSteps.{block-is, definitions-is, from-first, less-one, list-events, list-is, own-lines, quote-events, quote-is}
+use Rattle.md_events.proofs.RuleSteps.{block-is, definitions-is, footnote-is, from-first, less-one, list-events, list-is, own-lines, quote-events, quote-is}
 use Rattle.md_events.proofs.blocks.+blocks.Goals as goal
 
 pub write_block-overflow_sub-levels : goal.write_block-overflow_sub-levels
@@ -68,7 +70,7 @@ write_block-returns-in_ok-write_code-in-Code-clause-written t c =
     let first : lines ≡ line ∷ later = from-first c.args.lines.now c.index-lines-0.result (take (length c.args.lines.now - 1) (drop 1 c.args.lines.now)) c.requires c.index-lines-0.is (slice-rest 1 c.args.lines.now) in
     let found = block-is c.args.levels lines line later c.nests-nests.result start.Code first c.nests-nests.ensures (sym c.block_start.ensures ∙ c.in-Code.is) in
     c.in_ok-write_code-in-Code.ensures
-    ∙ (ap (λ ls. c.args.out.now.items ++ events (Branch (tag.CodeBlock Indented) (code_lines 4 ls) Empty)) (own-lines lines line later c.hanging-more.result (hanging 4 later) first c.hanging-more.ensures.value)
+    ∙ (ap (λ ls. c.args.out.now.items ++ events (Branch (tag.CodeBlock Indented) (kept_lines Text 4 ls) Empty)) (own-lines lines line later c.hanging-more.result (hanging 4 later) first c.hanging-more.ensures.value)
     ∙ ap (λ b. c.args.out.now.items ++ block_events c.args.tight b) (sym found))
 
 pub write_block-returns-in_ok-write_run-in-Paragraph-clause-written : goal.write_block-returns-in_ok-write_run-in-Paragraph-clause-written
@@ -235,6 +237,49 @@ write_block-returns-in-Definitions-clause-written t c =
     let first = from-first lines line later c.requires c.index-lines-0.is (slice-rest 1 lines) in
     let found = (definitions-is c.args.levels lines line later c.nests-nests.result first c.nests-nests.ensures (sym c.block_start.ensures ∙ c.in-Definitions.is)).0 in
     subst (λ (x : List Event). OnOk c.write_definitions.result (c.write_definitions.new.out.items ≡ c.args.out.now.items ++ x)) (sym (ap (block_events c.args.tight) found)) c.write_definitions.ensures.written
+
+pub write_block-overflow_sub-levels-in-Footnote : goal.write_block-overflow_sub-levels-in-Footnote
+write_block-overflow_sub-levels-in-Footnote t c =
+    let first = from-first c.args.lines.now c.index-lines-0.result (take (length c.args.lines.now - 1) (drop 1 c.args.lines.now)) c.requires c.index-lines-0.is (slice-rest 1 c.args.lines.now) in
+    (footnote-is c.args.levels c.args.lines.now c.index-lines-0.result (take (length c.args.lines.now - 1) (drop 1 c.args.lines.now)) c.nests-nests.result c.in-Footnote.label first c.nests-nests.ensures (sym c.block_start.ensures ∙ c.in-Footnote.is)).2
+
+pub write_block-write_footnote-requires : goal.write_block-write_footnote-requires
+write_block-write_footnote-requires t c =
+    let first = from-first c.args.lines.now c.index-lines-0.result (take (length c.args.lines.now - 1) (drop 1 c.args.lines.now)) c.requires c.index-lines-0.is (slice-rest 1 c.args.lines.now) in
+    let found = footnote-is c.args.levels c.args.lines.now c.index-lines-0.result (take (length c.args.lines.now - 1) (drop 1 c.args.lines.now)) c.nests-nests.result c.in-Footnote.label first c.nests-nests.ensures (sym c.block_start.ensures ∙ c.in-Footnote.is) in
+    let some : 0 < c.args.levels = found.2 in
+    (omega (arith, some), found.0)
+
+pub write_block-returns-in-Footnote-clause-written : goal.write_block-returns-in-Footnote-clause-written
+write_block-returns-in-Footnote-clause-written t c =
+    let lines : List LineText = c.args.lines.now in
+    let line : LineText = c.index-lines-0.result in
+    let later : List LineText = take (length lines - 1) (drop 1 lines) in
+    let first = from-first lines line later c.requires c.index-lines-0.is (slice-rest 1 lines) in
+    let found = (footnote-is c.args.levels lines line later c.nests-nests.result c.in-Footnote.label first c.nests-nests.ensures (sym c.block_start.ensures ∙ c.in-Footnote.is)).1 in
+    subst (λ (x : List Event). OnOk c.write_footnote.result (c.write_footnote.new.out.items ≡ c.args.out.now.items ++ x)) (sym (ap (block_events c.args.tight) found)) c.write_footnote.ensures.written
+
+pub write_block-returns-in_ok-write_html-in-Html-clause-written : goal.write_block-returns-in_ok-write_html-in-Html-clause-written
+write_block-returns-in_ok-write_html-in-Html-clause-written t c =
+    let lines : List LineText = c.args.lines.now in
+    let line : LineText = c.index-lines-0.result in
+    let later : List LineText = take (length lines - 1) (drop 1 lines) in
+    let first : lines ≡ line ∷ later = from-first lines line later c.requires c.index-lines-0.is (slice-rest 1 lines) in
+    let found = block-is c.args.levels lines line later c.nests-nests.result (start.Html c.in-Html.end) first c.nests-nests.ensures (sym c.block_start.ensures ∙ c.in-Html.is) in
+    c.in_ok-write_html-in-Html.ensures
+    ∙ (ap (λ ls. c.args.out.now.items ++ events (Branch tag.HtmlBlock (kept_lines Html 0 ls) Empty)) (own-lines lines line later c.html_more-more.result (html_more c.in-Html.end line later) first c.html_more-more.ensures.value)
+    ∙ ap (λ b. c.args.out.now.items ++ block_events c.args.tight b) (sym found))
+
+pub write_footnote-returns-clause-written : goal.write_footnote-returns-clause-written
+write_footnote-returns-clause-written t c =
+    let later : List LineText = c.args.later.now in
+    let inside : List LineText = c.as_slice.result.now in
+    let count : c.hanging-more.result - 0 ≡ c.hanging-more.result = omega arith in
+    footnote-written c.args.levels c.args.label c.args.line.now later inside c.hanging-more.result _ _ c.hanging-more.ensures.value
+    (c.as_slice.ensures.value ∙ c.in_ok-inside.ensures)
+    (c.in_ok-push-2.ensures.items
+    ∙ ap (λ x. x ++ End end.FootnoteDefinition ∷ [])
+    (c.in_ok-write_blocks.ensures ∙ ap (λ x. x ++ events (blocks c.args.levels false inside)) c.in_ok-push.ensures.items))
 
 pub write_definitions-returns-clause-written : goal.write_definitions-returns-clause-written
 write_definitions-returns-clause-written t c =

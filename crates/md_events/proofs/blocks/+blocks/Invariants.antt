@@ -26,6 +26,9 @@ decreases-write_list l = 8 * l.levels + 6
 abbrev pub decreases-write_quote : goal.decreases-write_quote
 decreases-write_quote l = 8 * l.levels + 6
 
+abbrev pub decreases-write_footnote : goal.decreases-write_footnote
+decreases-write_footnote l = 8 * l.levels + 6
+
 abbrev pub decreases-write_description : goal.decreases-write_description
 decreases-write_description l = 8 * l.levels + 3
 

@@ -3,13 +3,14 @@ use Rattle.md_tree.specs.declared.event.Event.TheVariants.{End}
 use Rattle.md_tree.specs.Tree.{events}
 use Rattle.md_tree.specs.declared.event.Tag.TheVariants.{CodeBlock}
 use Rattle.md_tree.specs.declared.event.TagEnd.TheVariants as end
-use Rattle.md_events.specs.CodeBlocks.{code_lines}
+use Rattle.md_events.specs.declared.kept.Kept.TheVariants.{Text}
+use Rattle.md_events.specs.Kept.{kept_lines}
 use Rattle.md_events.proofs.Steps.{element-written}
 use Rattle.md_events.proofs.code_blocks.write_code.Goals as goal
 
 pub returns : goal.returns
 returns c =
-    element-written (CodeBlock c.args.kind) end.CodeBlock (code_lines c.args.column c.args.lines.now) _ _ refl
+    element-written (CodeBlock c.args.kind) end.CodeBlock (kept_lines Text c.args.column c.args.lines.now) _ _ refl
     (c.in_ok-push-2.ensures.items
     ∙ ap (λ x. x ++ End end.CodeBlock ∷ [])
-    (c.in_ok-write_code_lines.ensures ∙ ap (λ x. x ++ events (code_lines c.args.column c.args.lines.now)) c.in_ok-push.ensures.items))
+    (c.in_ok-write_kept_lines.ensures ∙ ap (λ x. x ++ events (kept_lines Text c.args.column c.args.lines.now)) c.in_ok-push.ensures.items))

@@ -5,7 +5,6 @@ use Rattle.term_core.specs.Rect.{intersection, is_empty}
 use Rattle.term_core.specs.Buffers.{BufferView}
 use Rattle.term_widgets.specs.Page.{PageView, page_rows}
 use Rattle.md_events.specs.Blocks.{tree}
-use Rattle.md_events.specs.Built.{built}
 use Rattle.md_text.specs.Layout.{document_lines}
 use Rattle.md_text.specs.Look.{Look, look_of, default_look, knows_ansi, as_it_is}
 use Rattle.md_page.specs.Shown.{IsDrawn, job_look, shown_rows, too_wide}
@@ -42,7 +41,6 @@ returns c =
     let down : new.area.height ≡ job.height = ap (λ (r : Rect). r.height) (kept ∙ sym same) ∙ high in (
       record {
         utf8 = c.in-Ok.ensures.cases.1;
-        is_built = ap built (sym c.in-Ok.ensures.cases.0) ∙ sym c.if-not-built.ensures;
         fits = λ some. ap (λ (l : Look). too_wide l text job.width) (sym same_look) ∙ ap (too_wide look text) (sym cut_wide)
             ∙ (drawn (has_no_cell-empty job cut cut_wide cut_high ∙ some)).fits;
       },
